@@ -1,0 +1,4 @@
+pub mod Halves
+pub mod Total
+pub mod Laws
+pub mod Bytes
