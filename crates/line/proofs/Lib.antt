@@ -1,0 +1,6 @@
+pub mod All
+pub mod Order
+pub mod Fits
+pub mod Sends
+pub mod Said
+pub mod Edges

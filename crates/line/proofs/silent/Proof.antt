@@ -1,0 +1,14 @@
+-- The counts of a state are numbers of 32 bits, so none of them passes.
+use mathlib.Core.Path.{sym}
+use native.Mathlib.Omega.{arith}
+use Rattle.line.specs.Station.{silent}
+use Rattle.line.proofs.Said.{kept}
+use Rattle.line.proofs.silent.Statement.{statement}
+use Rattle.line.proofs.silent.Tie as tie
+
+returns : tie.Need-returns
+unfolding silent
+returns c = (sym (kept _ (omega arith) (omega arith) (omega arith)), λ e h. cc)
+
+pub silent-spec : {M : Type 1} → statement M
+silent-spec = tie.close (tie.spec returns)

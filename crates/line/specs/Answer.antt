@@ -1,0 +1,32 @@
+-- What the code's answer to running an event stands for. (document 01, number 16: "a station's heard, lost or sent would pass 4294967295")
+use mathlib.Core.Bool.{Bool, cond, _||_}
+use mathlib.Core.List.{List, [], _∷_, _++_}
+use Rattle.refusal.specs.Tests.{passes}
+use Rattle.line.specs.declared.Event.{Event}
+use Rattle.line.specs.declared.State.{State}
+use Rattle.line.specs.declared.Sending.{Sending}
+use Rattle.line.specs.declared.Sending.the-variants.{Nothing, Sends}
+use Rattle.line.specs.declared.Ran.{Ran}
+use Rattle.line.specs.declared.Ran.the-variants.{Done, Over}
+use Rattle.line.specs.Station.{Outcome}
+
+-- 16: "a station's heard, lost or sent would pass 4294967295", where they would be those of this state
+abbrev pub countsPass : State → Bool
+countsPass st = passes (st .heard) || (passes (st .lost) || passes (st .sent))
+
+-- an outcome, or that its counts pass
+pub data Counted : Type 0 where
+  within : Outcome → Counted
+  over : Counted
+
+unfoldable pub counted : Outcome → Counted
+counted o = cond (countsPass (o .after)) over (within o)
+
+abbrev pub sent : Sending → List Event
+sent Nothing = []
+sent (Sends x) = x ∷ []
+
+-- what the code's answer says
+abbrev pub said : Ran → Counted
+said (Done e) = within (record { after = e .state; sends = sent (e .first) ++ sent (e .second) })
+said Over = over

@@ -1,0 +1,4 @@
+pub mod Event
+pub mod Matter
+pub mod Station
+pub mod Answer

@@ -1,0 +1,69 @@
+-- What each number says, one test a number, for calendar and engine alike (document 01, "What each number says, in checking order"). The tests of
+-- 1 to 5 stand with the plan, 8 with the command line, 10 with the matter, and 13 to 15 with the held events.
+use Prim.Native.Nat.{ℕ, _+_, _*_}
+use mathlib.Core.Bool.{Bool, true, false, _||_}
+use mathlib.Core.List.{List, [], _∷_}
+use lib.Dec.{ltb, leb}
+
+-- H, the last time of an event ("Events and stations")
+abbrev pub horizon : ℕ
+horizon = 1099511627775
+
+-- the largest number of 32 bits
+abbrev pub largest : ℕ
+largest = 4294967295
+
+-- 6: the leaf width is out of range, 1 to 1048576
+abbrev pub widthOut : ℕ → Bool
+widthOut w = ltb w 1 || ltb 1048576 w
+
+-- 7: N is out of range for the calendar, or its buffer of the given length is too short
+abbrev pub calendarSpaceOut : ℕ → ℕ → Bool
+calendarSpaceOut n bytes = ltb n 1 || (ltb 256 n || ltb bytes (32768 + 64 * n))
+
+-- 7: the capacity is out of range, 2 to 4096, or the engine's buffer of the given length is too short
+abbrev pub engineSpaceOut : ℕ → ℕ → ℕ → Bool
+engineSpaceOut n capacity bytes = ltb capacity 2 || (ltb 4096 capacity || ltb bytes (32768 + 256 * n + 256 * capacity))
+
+-- 9: the station is N or more
+abbrev pub stationOut : ℕ → ℕ → Bool
+stationOut n s = leb n s
+
+-- 11: a time is after H; a commit time or floor is after H + 1
+abbrev pub timeLate : ℕ → Bool
+timeLate t = ltb horizon t
+
+abbrev pub floorLate : ℕ → Bool
+floorLate c = ltb (horizon + 1) c
+
+-- 12: a time is before the commit time or floor
+abbrev pub timeEarly : ℕ → ℕ → Bool
+timeEarly now t = ltb t now
+
+-- 16: a number would pass 4294967295
+abbrev pub passes : ℕ → Bool
+passes n = ltb largest n
+
+-- 17: fewer places are free than events are added
+abbrev pub tooFew : ℕ → ℕ → Bool
+tooFew free added = ltb free added
+
+-- ---- the checking order
+
+-- a number, and whether what it says is so
+pub record Check : Type 0 where
+  pub number : ℕ
+  pub holds : Bool
+
+pub data Verdict : Type 0 where
+  accepted : Verdict
+  refused : ℕ → Verdict
+
+unfoldable pub orNext : Bool → ℕ → Verdict → Verdict
+orNext true n rest = refused n
+orNext false n rest = rest
+
+-- a call is refused by the first number of its list that holds, and accepted where none does
+unfoldable pub judged : List Check → Verdict
+judged [] = accepted
+judged (c ∷ cs) = orNext (c .holds) (c .number) (judged cs)
