@@ -1,0 +1,53 @@
+-- An accepted write, read again: from what the writer accepts to what the reader gives back.
+use Prim.Native.Nat.{ℕ, _≤_, _<_}
+use native.Mathlib.Omega.{arith}
+use mathlib.Core.Path.{_≡_, refl, sym, ap, _∙_, subst}
+use mathlib.Core.Bool.{Bool, true, false, cond, _||_}
+use mathlib.Core.List.{List, map}
+use lib.Dec.{ltb}
+use lib.ListN.{length, take, getD}
+use lib.Seq.{length-take-le, getD-take}
+use borrow.Author.Tests.{ltb-false}
+use Rattle.refusal.specs.declared.Refusal.{Refusal}
+use Rattle.line.specs.Station.{numberOut}
+use Rattle.line.proofs.Fits.{or-false}
+use Rattle.plan.specs.declared.Station.{Station}
+use Rattle.plan.specs.declared.ReadAnswer.the-variants.{Stations}
+use Rattle.plan.specs.declared.WriteAnswer.{WriteAnswer}
+use Rattle.plan.specs.declared.WriteAnswer.the-variants.{Length, Refused}
+use Rattle.plan.specs.Plan.{stationsFrom, nameOut}
+use Rattle.plan.specs.Reading.{any, judging}
+use Rattle.plan.specs.Writing.{planOf, noStation, chosen, fieldOut, wordOut, writing, cleared}
+use Rattle.plan.proofs.Lows.{any-none}
+use Rattle.plan.proofs.ReadWritten.{Sized, Writable, written-accepted, written-read}
+
+-- a test that refuses did not hold
+passed : (b : Bool) (r : Refusal) (rest : WriteAnswer) {m : ℕ} → cond b (Refused r) rest ≡ Length m → (b ≡ false) × (rest ≡ Length m)
+passed true r rest e = let z : _≡_ {A = ℕ} 0 1 = cc in absurd (omega arith)
+passed false r rest e = (refl, e)
+
+module _ (n : ℕ) (ss : List Station) (room m : ℕ) (e : writing n ss room ≡ Length m) (sized : (k : ℕ) → k < n → Sized (getD ss k noStation)) where
+  writable : Writable (chosen n ss)
+  unfolding writing
+  writable =
+      let a = passed (ltb n 1 || (ltb 256 n || ltb (length ss) n)) _ _ e in
+      let b = or-false (ltb n 1) _ (a .0) in
+      let c = or-false (ltb 256 n) _ (b .1) in
+      let d = passed (any (fieldOut ss) n) _ _ (a .1) in
+      let f = passed (any (wordOut ss) n) _ _ (d .1) in
+      let l : length (take n ss) ≡ n = length-take-le n ss (ltb-false (length ss) n (c .1)) in
+      record {
+        some = subst (λ j. 1 ≤ j) (sym l) (ltb-false n 1 (b .0));
+        most = subst (λ j. j ≤ 256) (sym l) (ltb-false 256 n (c .0));
+        sized = λ k h. let i : k < n = omega arith in subst Sized (sym (getD-take n ss k noStation i)) (sized k i);
+        numbers = λ k h. let i : k < n = omega arith in ap (λ s. numberOut k (s .config)) (getD-take n ss k noStation i) ∙ any-none (fieldOut ss) n k (d .0) i;
+        names = λ k h. let i : k < n = omega arith in ap nameOut (getD-take n ss k noStation i) ∙ any-none (wordOut ss) n k (f .0) i;
+      }
+
+  -- the plan that was written is accepted
+  pub write-accepted : judging (planOf (chosen n ss)) ≡ Stations (length (chosen n ss))
+  write-accepted = written-accepted (chosen n ss) writable
+
+  -- and its stations are those that were written, with zeros behind their names
+  pub write-then-read : stationsFrom (planOf (chosen n ss)) 0 (length (chosen n ss)) ≡ map cleared (chosen n ss)
+  write-then-read = written-read (chosen n ss) writable

@@ -1,0 +1,71 @@
+use Rattle.plan.specs.WriteSteps.{headOf}
+-- `put_head` meets its contract: four stores, each behind the last, are one run.
+use Rattle.plan.proofs.WriteStores.{store-sets, store-then}
+use Rattle.words.proofs.Laws.{length-bytes}
+use Rattle.words.specs.Le.{bytesOf}
+use lib.Seq.{sets}
+use lib.ListN.{length-append}
+use mathlib.Core.List.{_++_, append-assoc}
+use mathlib.Core.Path.{_≡_, ap, _∙_}
+use native.Mathlib.Omega.{arith}
+use Prim.Native.Nat.{_+_}
+use borrow.Author.Needs.{needs}
+use Rattle.plan.proofs.writer.put_head.Statement.{statement}
+use Rattle.plan.proofs.writer.put_head.Tie as tie
+
+store16-requires : tie.Need-store16-requires
+store16-requires c κs = search needs
+
+add-store32 : tie.Need-add-store32
+add-store32 c = search needs
+
+store32-requires : tie.Need-store32-requires
+store32-requires c κs = search needs
+
+add-store32-2 : tie.Need-add-store32-2
+add-store32-2 c = search needs
+
+store32-requires-2 : tie.Need-store32-requires-2
+store32-requires-2 c κs = search needs
+
+add-store32-3 : tie.Need-add-store32-3
+add-store32-3 c = search needs
+
+store32-requires-3 : tie.Need-store32-requires-3
+store32-requires-3 c κs = search needs
+
+same-length : tie.Need-same-length
+same-length c = search needs
+
+returns : tie.Need-returns
+returns c =
+    let a = c .before .before .before .before .before .before .before .before .before .before .before .before .before .before .before .before .before .args in
+    let l = a .out .now in
+    let at = a .at in
+    let v = a .c in
+    let p₁ = bytesOf 2 (v .parent) in
+    let p₂ = p₁ ++ bytesOf 4 (v .calm) in
+    let p₃ = p₂ ++ bytesOf 4 (v .spring) in
+    let e : p₃ ++ bytesOf 4 (v .threshold) ≡ headOf v = simp append-assoc in
+    store-then l at (at + 10) 4 (v .threshold) p₃
+    (store-then l at (at + 6) 4 (v .spring) p₂
+    (store-then l at (at + 2) 4 (v .calm) p₁
+    (c .before .before .before .before .before .before .before .before .before .before .before .before .before .before .store16 .ensures ∙ store-sets 2 at (v .parent) l (omega arith))
+    (c .before .before .before .before .before .before .before .before .before .before .store32 .ensures) (simp length-bytes) (omega arith))
+    (c .before .before .before .before .before .before .store322 .ensures) (simp (length-append, length-bytes)) (omega arith))
+    (c .before .before .store323 .ensures) (simp (length-append, length-bytes)) (omega arith)
+    ∙ ap (sets l at) e
+
+pub put-head-spec : {M : Type 1} → statement M
+put-head-spec =
+    tie.close
+    (tie.spec
+    store16-requires
+    add-store32
+    store32-requires
+    add-store32-2
+    store32-requires-2
+    add-store32-3
+    store32-requires-3
+    same-length
+    returns)

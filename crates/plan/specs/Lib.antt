@@ -1,0 +1,7 @@
+pub mod Lowest
+pub mod Plan
+pub mod Reading
+pub mod Naming
+pub mod Writing
+pub mod WriteSteps
+pub mod Numbers
