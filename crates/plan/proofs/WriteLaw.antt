@@ -16,7 +16,7 @@ use Rattle.plan.specs.declared.writer.Pen.{Pen}
 use Rattle.plan.specs.Lowest.{lowest}
 use Rattle.plan.specs.Reading.{any}
 use Rattle.plan.specs.Writing.{planOf, chosen, writing, left, noStation, fieldOut, wordOut}
-use Rattle.plan.specs.WriteSteps.{Draft, drafted, Named, penOf, wanted, answered, writes}
+use Rattle.plan.specs.WriteSteps.{Draft, drafted, NameSized, penOf, wanted, answered, writes}
 use Rattle.line.proofs.Fits.{or-false}
 use Rattle.plan.proofs.Lows.{lowest-full, lowest-none}
 use Rattle.plan.proofs.Names.{name-short}
@@ -33,7 +33,7 @@ writes-le (Refused r) n = omega arith
 pub record First (n : ℕ) (ss : List Station) (out mid : List ℕ) (p q : Pen) : Type 0 where
   pub start : p ≡ penOf (wanted n (length ss)) false
   pub pass : drafted ss (p .n) (record { pen = p; out = out }) ≡ record { pen = q; out = mid }
-  pub named : Named ss (p .n)
+  pub named : NameSized ss (p .n)
 
 pub first-held : (n : ℕ) (ss : List Station) {p : Pen} → p ≡ penOf (wanted n (length ss)) false → p .n ≤ length ss
 first-held n ss e = rw e (wanted-fits n (length ss) .1)
@@ -51,8 +51,8 @@ module _ {n : ℕ} {ss : List Station} {out mid : List ℕ} {p q : Pen} (f : Fir
   out-found : mid ≡ out
   out-found = ap (λ (d : Draft). d .out) found
 
-  names : Named ss m
-  names = subst (Named ss) (ap (λ (u : Pen). u .n) (f .start)) (f .named)
+  names : NameSized ss m
+  names = subst (NameSized ss) (ap (λ (u : Pen). u .n) (f .start)) (f .named)
 
   pub first-most : q .n ≤ 256
   first-most = rw pen-found (wanted-fits n (length ss) .0)
@@ -90,7 +90,7 @@ module _ (n : ℕ) (ss : List Station) (room : ℕ) where
   abbrev ending : ℕ → WriteAnswer
   ending l = cond (ltb room l) (Refused Output) (Length l)
 
-  module _ (fit : Fit n ss) (names : Named ss n) where
+  module _ (fit : Fit n ss) (names : NameSized ss n) where
     short : n ≤ lowest (wordOut ss) n → (i : ℕ) → i < n → getD ss i noStation .len ≤ 16
     short h i l = name-short (getD ss i noStation) (lowest-none (wordOut ss) n i (lowest-full (wordOut ss) n h) l)
 
@@ -149,7 +149,7 @@ module _ {n : ℕ} {ss : List Station} {out mid last : List ℕ} {p q w r : Pen}
           ap (λ (i : ℕ). answered (penAt ss i false i) (length out)) z ∙ sym (shapeless n ss (length out) e)
       go false e =
           let z : m f ≡ n = ap (λ (t : Bool). cond t 0 n) e in
-          ap (λ (i : ℕ). answered (penAt ss i false i) (length out)) z ∙ judged n ss (length out) (fit-of n ss e) (subst (Named ss) z (names f)) e
+          ap (λ (i : ℕ). answered (penAt ss i false i) (length out)) z ∙ judged n ss (length out) (fit-of n ss e) (subst (NameSized ss) z (names f)) e
 
   -- the second pass over as many stations as the answer says
   passed : (x : WriteAnswer) → a ≡ x → last ≡ drafted ss (writes x (m f)) (record { pen = penOf (writes x (m f)) true; out = out }) .out
@@ -167,7 +167,7 @@ module _ {n : ℕ} {ss : List Station} {out mid last : List ℕ} {p q w r : Pen}
       go (Length l) e =
           let y = accepted n ss (length out) l (sym answer-is ∙ e) in
           let z : m f ≡ n = wanted-fit (y .fit) in
-          let k = subst (Named ss) z (names f) in
+          let k = subst (NameSized ss) z (names f) in
           let s = short n ss (length out) (y .fit) k (y .words) in
           let h = plan-length ss n (y .fit .held) s k in
           passed (Length l) e

@@ -13,7 +13,7 @@ use Rattle.words.specs.Le.{bytesOf}
 use Rattle.words.proofs.Laws.{length-bytes}
 use Rattle.plan.specs.declared.Station.{Station}
 use Rattle.plan.specs.Writing.{noStation, sizeOf, recordOf, pairsOf, recordsOf, planOf}
-use Rattle.plan.specs.WriteSteps.{Draft, Named, headed, placed, roomy, drafted, penOf}
+use Rattle.plan.specs.WriteSteps.{Draft, NameSized, headed, placed, roomy, drafted, penOf}
 use Rattle.plan.proofs.WriteDraft.{length-drafted}
 use Rattle.plan.proofs.WriteSurvey.{spread, penAt, out-next}
 
@@ -66,7 +66,7 @@ length-record s short name = let e : length (take (s .len) (s .name)) ≡ s .len
 
 -- ---- the plan's length
 
-module _ (ss : List Station) (n : ℕ) (held : n ≤ length ss) (short : (i : ℕ) → i < n → getD ss i noStation .len ≤ 16) (names : Named ss n) where
+module _ (ss : List Station) (n : ℕ) (held : n ≤ length ss) (short : (i : ℕ) → i < n → getD ss i noStation .len ≤ 16) (names : NameSized ss n) where
   abbrev station : ℕ → Station
   station k = getD ss k noStation
 

@@ -1,12 +1,12 @@
 -- The paper's numbers of the plan's answers: the number that each answer says, and the numbers of each call in checking order (document 01, "What each
 -- number says, in checking order").
 use Prim.Native.Nat.{ℕ}
-use mathlib.Core.Bool.{Bool, _||_}
+use mathlib.Core.Bool.{Bool}
 use mathlib.Core.List.{List, [], _∷_, _++_}
 use lib.Dec.{ltb}
 use lib.ListN.{length}
 use Rattle.refusal.specs.Numbers.{numberOf}
-use Rattle.refusal.specs.Tests.{stationOut, Check, Verdict, accepted, refused}
+use Rattle.refusal.specs.Tests.{stationOut, Check, says, Verdict, accepted, refused}
 use Rattle.plan.specs.declared.Station.{Station}
 use Rattle.plan.specs.declared.ReadAnswer.{ReadAnswer}
 use Rattle.plan.specs.declared.ReadAnswer.the-variants as R
@@ -16,7 +16,7 @@ use Rattle.plan.specs.declared.WriteAnswer.{WriteAnswer}
 use Rattle.plan.specs.declared.WriteAnswer.the-variants as W
 use Rattle.plan.specs.Plan.{count, shapeWrong, pairWrong, trails, fieldWrong, nameWrong}
 use Rattle.plan.specs.Reading.{any}
-use Rattle.plan.specs.Writing.{planOf, chosen, fieldOut, wordOut}
+use Rattle.plan.specs.Writing.{planOf, chosen, countOut, fieldOut, wordOut}
 
 -- accepted, or refused with the number; the station of 2, 4 and 5 is `stationsOf` of the refusal
 abbrev pub readSays : ReadAnswer → Verdict
@@ -30,9 +30,6 @@ nameSays (N.Refused r) = refused (numberOf r)
 abbrev pub writeSays : WriteAnswer → Verdict
 writeSays (W.Length n) = accepted
 writeSays (W.Refused r) = refused (numberOf r)
-
-abbrev says : ℕ → Bool → Check
-says n b = record { number = n; holds = b }
 
 -- a plan gives 1 to 5
 abbrev pub planChecks : List ℕ → List Check
@@ -50,5 +47,5 @@ nameChecks p k = planChecks p ++ (says 9 (stationOut (count p) k) ∷ [])
 -- ".. the writer 1, 4, 5, 18"
 unfoldable pub writeChecks : ℕ → List Station → ℕ → List Check
 writeChecks n ss room =
-    says 1 (ltb n 1 || (ltb 256 n || ltb (length ss) n)) ∷ says 4 (any (fieldOut ss) n) ∷ says 5 (any (wordOut ss) n)
+    says 1 (countOut n (length ss)) ∷ says 4 (any (fieldOut ss) n) ∷ says 5 (any (wordOut ss) n)
     ∷ says 18 (ltb room (length (planOf (chosen n ss)))) ∷ []

@@ -1,7 +1,7 @@
 -- The writer's pass over a list of stations: what one station does to the pen and to the output.
 use Prim.Native.Nat.{ℕ, zero, suc, _+_, _*_, _<_}
 use mathlib.Core.Path.{_≡_}
-use mathlib.Core.Bool.{Bool, cond, _&&_, _||_}
+use mathlib.Core.Bool.{Bool, cond, _&&_}
 use mathlib.Core.List.{List, _++_}
 use lib.Dec.{ltb, leb, eqb}
 use lib.ListN.{length, getD}
@@ -15,7 +15,7 @@ use Rattle.plan.specs.declared.WriteAnswer.{WriteAnswer}
 use Rattle.plan.specs.declared.WriteAnswer.the-variants.{Length, Refused}
 use Rattle.plan.specs.declared.writer.Pen.{Pen}
 use Rattle.plan.specs.Plan.{nameOut}
-use Rattle.plan.specs.Writing.{sizeOf, recordOf, noStation}
+use Rattle.plan.specs.Writing.{sizeOf, recordOf, noStation, countOut}
 
 -- ---- one station
 
@@ -79,8 +79,8 @@ drafted ss zero d = d
 drafted ss (suc k) d = stepped (getD ss k noStation) (drafted ss k d)
 
 -- each of the first k stations has a name of 16 bytes, as the record's type has it
-abbrev pub Named : List Station → ℕ → Type 0
-Named ss k = (i : ℕ) → i < k → length (getD ss i noStation .name) ≡ 16
+abbrev pub NameSized : List Station → ℕ → Type 0
+NameSized ss k = (i : ℕ) → i < k → length (getD ss i noStation .name) ≡ 16
 
 -- ---- between the two passes
 
@@ -89,7 +89,7 @@ penOf n writing = record { n = n; k = 0; at = 2 + 8 * n; field = 0; name = 0; wr
 
 -- how many stations the first pass looks at: none where their number is refused
 abbrev pub wanted : ℕ → ℕ → ℕ
-wanted n len = cond (ltb n 1 || (ltb 256 n || ltb len n)) 0 n
+wanted n len = cond (countOut n len) 0 n
 
 -- what the first pass's pen says of so much room
 unfoldable pub answered : Pen → ℕ → WriteAnswer

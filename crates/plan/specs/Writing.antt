@@ -54,10 +54,14 @@ fieldOut ss k = numberOut k (getD ss k noStation .config)
 abbrev pub wordOut : List Station → ℕ → Bool
 wordOut ss k = nameOut (getD ss k noStation)
 
--- writing the first n stations of the list into so many bytes. 1: n is 0 or over 256, or more than the list has
+-- 1: "N is 0 or over 256", or more than the list of so many records has
+abbrev pub countOut : ℕ → ℕ → Bool
+countOut n len = ltb n 1 || (ltb 256 n || ltb len n)
+
+-- writing the first n stations of the list into so many bytes
 unfoldable pub writing : ℕ → List Station → ℕ → WriteAnswer
 writing n ss room =
-    cond (ltb n 1 || (ltb 256 n || ltb (length ss) n)) (Refused Shape)
+    cond (countOut n (length ss)) (Refused Shape)
     (cond (any (fieldOut ss) n) (Refused (Field (lowest (fieldOut ss) n)))
     (cond (any (wordOut ss) n) (Refused (Name (lowest (wordOut ss) n)))
     (cond (ltb room (length (planOf (chosen n ss)))) (Refused Output)

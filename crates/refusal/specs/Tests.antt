@@ -55,6 +55,9 @@ pub record Check : Type 0 where
   pub number : ℕ
   pub holds : Bool
 
+abbrev pub says : ℕ → Bool → Check
+says n b = record { number = n; holds = b }
+
 pub data Verdict : Type 0 where
   accepted : Verdict
   refused : ℕ → Verdict

@@ -4,7 +4,7 @@ use mathlib.Core.Bool.{Bool, true, false}
 use mathlib.Core.List.{List, [], _∷_}
 use lib.Dec.{ltb}
 use lib.ListN.{length}
-use Rattle.refusal.specs.Tests.{stationOut, timeLate, floorLate, timeEarly, passes, tooFew, Check}
+use Rattle.refusal.specs.Tests.{stationOut, timeLate, floorLate, timeEarly, passes, tooFew, Check, says}
 use Rattle.line.specs.declared.Meant.{Meant}
 use Rattle.line.specs.declared.Meant.the-variants.{Means, Refused as Unsuited}
 use Rattle.line.specs.Answer.{countsPass}
@@ -49,9 +49,6 @@ runTooFew p e (some x) = tooFew (free e) (length (runEvent p (e .queue .states (
 -- 18: "The output has fewer than 24 bytes per event"
 abbrev pub outputShort : ℕ → ℕ → Bool
 outputShort count bytes = ltb bytes (24 * count)
-
-abbrev says : ℕ → Bool → Check
-says n b = record { number = n; holds = b }
 
 -- ---- the numbers of each call, in checking order
 

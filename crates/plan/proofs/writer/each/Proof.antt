@@ -6,7 +6,7 @@ use borrow.Author.Count.{below-more}
 use Rattle.plan.specs.declared.Station.{Station}
 use Rattle.plan.specs.declared.writer.Pen.{Pen}
 use Rattle.plan.specs.Writing.{noStation}
-use Rattle.plan.specs.WriteSteps.{Draft, stepped, drafted, Named}
+use Rattle.plan.specs.WriteSteps.{Draft, stepped, drafted, NameSized}
 use Rattle.plan.proofs.WriteAgain.{LentAgain, lends-again, comes-back}
 use Rattle.plan.proofs.WriteDraft.{drafted-zero, drafted-next, length-drafted}
 use Rattle.plan.proofs.Station as T
@@ -82,7 +82,7 @@ module _ {M : Type 1} (𝓤 : URA M) (H : Heap 𝓤) (A : Atoms 𝓤) (W : Given
   abbrev Post : Val → SProp 𝓤
   Post = walkOf 𝓤 H A each.ended stayed (each.clauses 𝓤 H A mem run) .post (((κ, (κ′, tt)), (q, (q′, tt)), tt, a, vals), tt)
 
-  exits : Is P.the-row (D n .pen) (pmach (D n .pen) ∷ []) → Named ss n → ent 𝓤 (⋆ 𝓤 H A (‵ (flft κ q) ∷ ‵ Shr ∷ ‵ Res ∷ ‵ (Mut (D n .out)) ∷ ‵ (flft κ′ q′) ∷ [])) (Post (pmach (D n .pen)))
+  exits : Is P.the-row (D n .pen) (pmach (D n .pen) ∷ []) → NameSized ss n → ent 𝓤 (⋆ 𝓤 H A (‵ (flft κ q) ∷ ‵ Shr ∷ ‵ Res ∷ ‵ (Mut (D n .out)) ∷ ‵ (flft κ′ q′) ∷ [])) (Post (pmach (D n .pen)))
   exits is all =
       qed W (‵ (flft κ q) ∷ ‵ Shr ∷ ‵ Res ∷ ‵ (Mut (D n .out)) ∷ ‵ (flft κ′ q′) ∷ []) ∵
       suffices ! _ (ends-at 𝓤 H A each.ended stayed (each.clauses 𝓤 H A mem run) W (((κ, (κ′, tt)), (q, (q′, tt)), tt, a, vals), tt) (pmach (D n .pen)) (D n .pen) (tt, (D n .out, (tt, tt))) (tt, (Len n, (tt, tt)))) $ says ! (refl, all) $
@@ -104,7 +104,7 @@ module _ {M : Type 1} (𝓤 : URA M) (H : Heap 𝓤) (A : Atoms 𝓤) (W : Given
       move ! (2 ∷ 0 ∷ []) $ fjoin ! $ move ! (1 ∷ 0 ∷ []) $ join ! $ nothing ! $ move ! (1 ∷ 0 ∷ []) $ done !
 
   abbrev Upto : Type 0
-  Upto = (k : ℕ) × ((k ≤ n) × (Is P.the-row (D k .pen) (pmach (D k .pen) ∷ []) × Named ss k))
+  Upto = (k : ℕ) × ((k ≤ n) × (Is P.the-row (D k .pen) (pmach (D k .pen) ∷ []) × NameSized ss k))
 
   abbrev Nearer : Upto → Upto → Type 0
   Nearer j i = n - j .0 < n - i .0
@@ -219,7 +219,7 @@ module _ {M : Type 1} (𝓤 : URA M) (H : Heap 𝓤) (A : Atoms 𝓤) (W : Given
           assigns ! (of-opd ! (load ! (from ! (stop !)) (look ! 19 refl))) (from ! (stop !)) (init ! 29 refl (LL.lawful P.the-type P′.the-laws 𝓤 H A W .typed (D n .pen) _ last-is .0)) $
           returns ! (look ! 29 refl) $ forget ! 15 refl $ forget ! 17 refl $ forget ! 19 refl $ forget ! 21 refl $ forget ! 23 refl $ forget ! 25 refl $ forget ! 27 refl $ forget ! 29 refl $
           move ! (29 ∷ 30 ∷ []) $ free1 ! $ move ! (27 ∷ 28 ∷ []) $ free1 ! $ move ! (25 ∷ 26 ∷ []) $ free1 ! $ move ! (23 ∷ 24 ∷ []) $ free1 ! $ move ! (21 ∷ 22 ∷ []) $ free1 ! $ move ! (19 ∷ 20 ∷ []) $ free1 ! $ move ! (17 ∷ 18 ∷ []) $ free1 ! $
-          move ! (15 ∷ 16 ∷ []) $ free1 ! $ move ! (13 ∷ 14 ∷ []) $ free1 ! $ move ! (11 ∷ 12 ∷ []) $ free1 ! $ move ! (9 ∷ 10 ∷ []) $ free1 ! $ move ! (7 ∷ 8 ∷ []) $ free1 ! $ move ! (5 ∷ 6 ∷ []) $ free1 ! $ free0 ! $ by ! (exits last-is (subst (Named ss) (le-antisymm (k .1 .0) over) (k .1 .1 .1)))
+          move ! (15 ∷ 16 ∷ []) $ free1 ! $ move ! (13 ∷ 14 ∷ []) $ free1 ! $ move ! (11 ∷ 12 ∷ []) $ free1 ! $ move ! (9 ∷ 10 ∷ []) $ free1 ! $ move ! (7 ∷ 8 ∷ []) $ free1 ! $ move ! (5 ∷ 6 ∷ []) $ free1 ! $ free0 ! $ by ! (exits last-is (subst (NameSized ss) (le-antisymm (k .1 .0) over) (k .1 .1 .1)))
         where
           last-is : Is P.the-row (D n .pen) (pmach (D n .pen) ∷ [])
           last-is = subst (λ (m : ℕ). Is P.the-row (D m .pen) (pmach (D m .pen) ∷ [])) (le-antisymm (k .1 .0) over) (k .1 .1 .0)

@@ -7,7 +7,7 @@ use Rattle.plan.specs.declared.Station.{Station}
 use Rattle.plan.specs.declared.WriteAnswer.{WriteAnswer}
 use Rattle.plan.specs.declared.writer.Pen.{Pen}
 use Rattle.plan.specs.Writing.{planOf, chosen, writing, left}
-use Rattle.plan.specs.WriteSteps.{drafted, Named, penOf, wanted, answered, writes}
+use Rattle.plan.specs.WriteSteps.{drafted, NameSized, penOf, wanted, answered, writes}
 use Rattle.plan.proofs.WriteAgain.{LentAgain, lends-again, comes-back}
 use Rattle.plan.proofs.WriteLaw.{First, first-held, first-most, second-held, written}
 use Rattle.plan.proofs.Station as T
@@ -188,8 +188,8 @@ module _ {M : Type 1} (𝓤 : URA M) (H : Heap 𝓤) (A : Atoms 𝓤) (W : Given
           -- [what is asked; what the list owns; _13; …]
           calls-at ! fm (Each 𝓤 H A mem run) known-each (to-each κ′ q′ γ mid w v₄) (and-then ! (load ! (from ! (stop !)) (look ! 26 refl)) (and-then ! (load ! (from ! (stop !)) (look ! 2 refl)) (and-then ! (load ! (from ! (stop !)) (look ! 14 refl)) (no-more !)))) (λ v₅.
           use1 W (later (some (λ (u : Pen). ((‵ (flft κ q) ⊛ ‵ (flft κ′ q′) ⊛ ‵ ftrue) ⊛ ‵ (P.the-row .own u (v₅ ∷ []))) ⊛ raw (ensured 𝓤 H A each.ended (each.clauses 𝓤 H A mem run) (κ, (κ′, tt)) (x, (y γ mid, (w, tt))) tt u)))) (id⊢ 𝓤 _) $ await ! tt $ pick ! (λ u.
-          split ! $ move ! (1 ∷ []) $ use1 W (some (λ (zs : Lasts each.ended (κ, (κ′, tt)) (x, (y γ mid, (w, tt)))). ‵ (lasts each.ended (κ, (κ′, tt)) (x, (y γ mid, (w, tt))) zs) ⊛ raw (fact 𝓤 ((drafted ss (w .n) (record { pen = w; out = mid }) ≡ record { pen = u; out = zs .1 .0 }) × Named ss (w .n))))) (id⊢ 𝓤 _) $ pick ! (λ zs.
-          split ! $ move ! (1 ∷ []) $ heard ! ((drafted ss (w .n) (record { pen = w; out = mid }) ≡ record { pen = u; out = zs .1 .0 }) × Named ss (w .n)) (λ e₅. fsplit ! $ drop ! $ fsplit ! $ fsplit ! $ move ! (1 ∷ []) $ feqL ! (λ l₂.
+          split ! $ move ! (1 ∷ []) $ use1 W (some (λ (zs : Lasts each.ended (κ, (κ′, tt)) (x, (y γ mid, (w, tt)))). ‵ (lasts each.ended (κ, (κ′, tt)) (x, (y γ mid, (w, tt))) zs) ⊛ raw (fact 𝓤 ((drafted ss (w .n) (record { pen = w; out = mid }) ≡ record { pen = u; out = zs .1 .0 }) × NameSized ss (w .n))))) (id⊢ 𝓤 _) $ pick ! (λ zs.
+          split ! $ move ! (1 ∷ []) $ heard ! ((drafted ss (w .n) (record { pen = w; out = mid }) ≡ record { pen = u; out = zs .1 .0 }) × NameSized ss (w .n)) (λ e₅. fsplit ! $ drop ! $ fsplit ! $ fsplit ! $ move ! (1 ∷ []) $ feqL ! (λ l₂.
           -- [the last list; …; the tokens and the result; what the list owns; _13; …]
           move ! (2 ∷ []) $ split ! $ move ! (1 ∷ []) $ peeks ! P.the-row (Is P.the-row) (shows 𝓤 H A P.the-row) u (v₅ ∷ []) (λ u-is. land ! (from ! (stop !)) (init ! 9 refl (LL.lawful P.the-type P′.the-laws 𝓤 H A W .typed u _ u-is .0)) $
           -- [what u owns; the tokens; the last list; …; what the list owns; _13; …]
@@ -226,8 +226,8 @@ module _ {M : Type 1} (𝓤 : URA M) (H : Heap 𝓤) (A : Atoms 𝓤) (W : Given
         -- [what is asked; what the list owns; the lender's part; _13; …]
         calls-at ! fm (Each 𝓤 H A mem run) known-each (to-each (ν ∷ []) fullShare δ ys p v) (and-then ! (load ! (from ! (stop !)) (look ! 27 refl)) (and-then ! (load ! (from ! (stop !)) (look ! 9 refl)) (and-then ! (load ! (from ! (stop !)) (look ! 21 refl)) (no-more !)))) (λ v₂.
         use1 W (later (some (λ (q₁ : Pen). ((‵ (flft κ q) ⊛ ‵ (flft (ν ∷ []) fullShare) ⊛ ‵ ftrue) ⊛ ‵ (P.the-row .own q₁ (v₂ ∷ []))) ⊛ raw (ensured 𝓤 H A each.ended (each.clauses 𝓤 H A mem run) (κ, ((ν ∷ []), tt)) (x, (y δ ys, (p, tt))) tt q₁)))) (id⊢ 𝓤 _) $ await ! tt $ pick ! (λ q₁.
-        split ! $ move ! (1 ∷ []) $ use1 W (some (λ (zs : Lasts each.ended (κ, ((ν ∷ []), tt)) (x, (y δ ys, (p, tt)))). ‵ (lasts each.ended (κ, ((ν ∷ []), tt)) (x, (y δ ys, (p, tt))) zs) ⊛ raw (fact 𝓤 ((drafted ss (p .n) (record { pen = p; out = ys }) ≡ record { pen = q₁; out = zs .1 .0 }) × Named ss (p .n))))) (id⊢ 𝓤 _) $ pick ! (λ zs.
-        split ! $ move ! (1 ∷ []) $ heard ! ((drafted ss (p .n) (record { pen = p; out = ys }) ≡ record { pen = q₁; out = zs .1 .0 }) × Named ss (p .n)) (λ e₂. fsplit ! $ drop ! $ fsplit ! $ fsplit ! $ move ! (1 ∷ []) $ feqL ! (λ l.
+        split ! $ move ! (1 ∷ []) $ use1 W (some (λ (zs : Lasts each.ended (κ, ((ν ∷ []), tt)) (x, (y δ ys, (p, tt)))). ‵ (lasts each.ended (κ, ((ν ∷ []), tt)) (x, (y δ ys, (p, tt))) zs) ⊛ raw (fact 𝓤 ((drafted ss (p .n) (record { pen = p; out = ys }) ≡ record { pen = q₁; out = zs .1 .0 }) × NameSized ss (p .n))))) (id⊢ 𝓤 _) $ pick ! (λ zs.
+        split ! $ move ! (1 ∷ []) $ heard ! ((drafted ss (p .n) (record { pen = p; out = ys }) ≡ record { pen = q₁; out = zs .1 .0 }) × NameSized ss (p .n)) (λ e₂. fsplit ! $ drop ! $ fsplit ! $ fsplit ! $ move ! (1 ∷ []) $ feqL ! (λ l.
         -- [the last list; …; the tokens and the result; what the list owns; the lender's part; _13; …]
         move ! (2 ∷ []) $ split ! $ move ! (1 ∷ []) $ peeks ! P.the-row (Is P.the-row) (shows 𝓤 H A P.the-row) q₁ (v₂ ∷ []) (λ q-is. land ! (from ! (stop !)) (init ! 22 refl (LL.lawful P.the-type P′.the-laws 𝓤 H A W .typed q₁ _ q-is .0)) $
         -- the lifetime is ended, and the bytes come back at that list
