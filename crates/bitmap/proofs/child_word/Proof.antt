@@ -1,0 +1,25 @@
+-- A power of two is one bit.
+use mathlib.Core.Path.{_∙_}
+use Prim.Native.Nat.{_-_, _^_}
+use native.Mathlib.Nat.{one-mul}
+use native.Mathlib.Omega.{arith}
+use borrow.Author.Needs.{needs}
+use lib.Dec.{lit<}
+use lib.Pow.{shl-exact}
+use Rattle.bitmap.proofs.child_word.Statement.{statement}
+use Rattle.bitmap.proofs.child_word.Tie as tie
+
+sub-place : tie.Need-sub-place
+sub-place c = search needs
+
+cast-result : tie.Need-cast-result
+cast-result c = search needs
+
+shl-result : tie.Need-shl-result
+shl-result c = search needs
+
+returns : tie.Need-returns
+returns c = shl-exact 1 (15 - c .args .i) 16 (lit< tt) (omega arith) ∙ one-mul (2 ^ (15 - c .args .i))
+
+pub child-word-spec : {M : Type 1} → statement M
+child-word-spec = tie.close (tie.spec sub-place cast-result shl-result returns)

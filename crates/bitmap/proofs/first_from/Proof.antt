@@ -1,0 +1,23 @@
+-- The first child of what is left without the children before.
+use mathlib.Core.Path.{subst}
+use Prim.Native.Nat.{ℕ}
+use borrow.Author.Needs.{needs}
+use Rattle.bitmap.proofs.ChildLaws.{rest-first, rest-past}
+use Rattle.bitmap.specs.Child.{FirstChild}
+use Rattle.bitmap.proofs.first_from.Statement.{statement}
+use Rattle.bitmap.proofs.first_from.Tie as tie
+
+returns : tie.Need-returns
+returns c = rest-past 16 (c .before .args .x) (c .before .args .i) (c .if1 .taken)
+
+rest-requires : tie.Need-rest-requires
+rest-requires c κs = search needs
+
+first-child-requires : tie.Need-first-child-requires
+first-child-requires c κs = search needs
+
+returns-2 : tie.Need-returns-2
+returns-2 c = rest-first 16 (c .before .before .before .args .x) (c .before .before .before .args .i) (c .first-child .result) (c .before .before .if1 .left) (subst (λ (y : ℕ). FirstChild 16 y (c .first-child .result)) (c .before .rest .ensures) (c .first-child .ensures))
+
+pub first-from-spec : {M : Type 1} → statement M
+first-from-spec = tie.close (tie.spec returns rest-requires first-child-requires returns-2)
