@@ -1,0 +1,147 @@
+-- An absent station is put into a bucket: what the stores of `insert` leave.
+use mathlib.Core.Path.{_≡_, refl, sym, ap, _∙_, subst}
+use mathlib.Core.Logic.{_⊎_, inl, inr}
+use mathlib.Core.List.{List}
+use Prim.Native.Nat.{ℕ, zero, suc, _+_, _-_, _*_, _^_, _≤_, _<_}
+use native.Mathlib.Omega.{arith}
+use lib.ListN.{length}
+use Rattle.buckets.specs.Cells.{wordAt, halfAt, putWord, putHalf}
+use Rattle.buckets.specs.Table.{dueOf, bucketOf, nextOf, prevOf, nodeOf, rootOf, headOf, Due, Table, Kept, Changed, Gone, Placed}
+use Rattle.buckets.specs.Steps.{Place, Joined, Refreshed}
+use Rattle.buckets.proofs.CellLaws.{length-word, length-half, word-same, word-other, word-half, half-same, half-other, half-word}
+use Rattle.buckets.proofs.Places.{list-head}
+use Rattle.buckets.proofs.ListIn.{lists-in}
+use Rattle.buckets.proofs.Changes.{tree-same, changed}
+
+module _
+    (s d p n list : ℕ) (xs ys zs us vs ws : List ℕ) (ls : s < 256)
+    (ey : ys ≡ putWord (8 + s) d xs) (ez : zs ≡ putHalf (4864 + s) list ys) (J : Joined s n zs us) (K : Joined p (suc s) us vs) (R : Refreshed list vs ws)
+  where
+    in-size : length ws ≡ length xs
+    in-size = R .size ∙ K .size ∙ J .size ∙ ap length ez ∙ length-half (4864 + s) list ys ∙ ap length ey ∙ length-word (8 + s) d xs
+
+    in-word : (i : ℕ) → i < 264 → (i ≡ 8 + s → ⊥) → wordAt i ws ≡ wordAt i xs
+    in-word i l ne =
+        R .words i l ∙ K .words i l ∙ J .words i l ∙ ap (wordAt i) ez ∙ word-half (4864 + s) list ys i l ∙ ap (wordAt i) ey ∙ word-other (8 + s) d xs i ne
+
+    pub put-kept : Kept xs ws
+    put-kept = record { size = in-size; words = λ i l. in-word i (omega arith) (omega arith) }
+
+    module _
+        (T : Table xs) (ed : dueOf xs s ≡ 0) (pd : 0 < d) (md : d ≤ 1099511627776) (ll : list < 4352) (lo : 4096 ≤ list → list ≡ 4096 + s)
+        (lp : p < 4608) (P : Place xs list (d * 256 + s) p) (en : n ≡ nextOf xs p)
+      where
+        long-y : 12930 ≤ length ys
+        long-y = rw (ey, length-word) (T .long)
+
+        long-z : 12930 ≤ length zs
+        long-z = rw (ez, length-half) long-y
+
+        long-u : 12930 ≤ length us
+        long-u = rw (J .size) long-z
+
+        long-v : 12930 ≤ length vs
+        long-v = rw (K .size) long-u
+
+        -- the station is not the place before it
+        apart : s ≡ p → ⊥
+        apart e = P .live (subst (λ (k : ℕ). k < 256) e ls) (ap (dueOf xs) (sym e) ∙ ed)
+
+        in-this : dueOf ws s ≡ d
+        in-this =
+            R .words (8 + s) (omega arith) ∙ K .words (8 + s) (omega arith) ∙ J .words (8 + s) (omega arith) ∙ ap (wordAt (8 + s)) ez
+            ∙ word-half (4864 + s) list ys (8 + s) (omega arith) ∙ ap (wordAt (8 + s)) ey ∙ word-same (8 + s) d xs (omega (arith, T .long)) (omega arith)
+
+        in-due : (x : ℕ) → x < 256 → (x ≡ s → ⊥) → dueOf ws x ≡ dueOf xs x
+        in-due x l ne = in-word (8 + x) (omega arith) (omega arith)
+
+        half-z : (k : ℕ) → (k ≡ 4864 + s → ⊥) → halfAt k zs ≡ halfAt k xs
+        half-z k ne = ap (halfAt k) ez ∙ half-other (4864 + s) list ys k ne ∙ ap (halfAt k) ey ∙ half-word (8 + s) d xs k (omega arith)
+
+        -- a half word that neither join touches
+        in-rest : (k : ℕ) → (k ≡ p → ⊥) → (k ≡ s → ⊥) → (k ≡ 4608 + s → ⊥) → ((m : ℕ) → m < 256 → n ≡ suc m → k ≡ 4608 + m → ⊥)
+            → halfAt k vs ≡ halfAt k zs
+        in-rest k a b c f =
+            K .others k a (λ m lm e g. let ms : m ≡ s = omega arith in c (g ∙ ap (λ (y : ℕ). 4608 + y) ms)) ∙ J .others k b f
+
+        in-next-p : nextOf ws p ≡ suc s
+        in-next-p = R .links p (omega arith) ∙ K .next long-u lp
+
+        in-next-s : nextOf ws s ≡ nextOf xs p
+        in-next-s =
+            R .links s (omega arith) ∙ K .others s apart (λ m lm e g. omega arith) ∙ J .next long-z (omega arith) ∙ en
+
+        in-next-o : (q : ℕ) → q < 4608 → (q ≡ s → ⊥) → (q ≡ p → ⊥) → nextOf ws q ≡ nextOf xs q
+        in-next-o q l a b = R .links q (omega arith) ∙ in-rest q b a (omega arith) (λ m lm e g. omega arith) ∙ half-z q (omega arith)
+
+        in-prev-s : prevOf ws s ≡ p
+        in-prev-s = R .links (4608 + s) (omega arith) ∙ K .prev long-u lp s ls refl
+
+        -- the station behind p was there before
+        in-behind : (m : ℕ) → nextOf xs p ≡ suc m → m ≡ s → ⊥
+        in-behind m e z = T .lists .front p lp (P .live) m e .live (ap (dueOf xs) z ∙ ed)
+
+        in-prev-n : (m : ℕ) → m < 256 → nextOf xs p ≡ suc m → prevOf ws m ≡ s
+        in-prev-n m l e =
+            let ne : m ≡ s → ⊥ = in-behind m e in
+            R .links (4608 + m) (omega arith) ∙ K .others (4608 + m) (omega arith) (λ k lk f g. ne (omega arith)) ∙ J .prev long-z (omega arith) m l (en ∙ e)
+
+        in-prev-o : (m : ℕ) → m < 256 → (m ≡ s → ⊥) → (nextOf xs p ≡ suc m → ⊥) → prevOf ws m ≡ prevOf xs m
+        in-prev-o m l a b =
+            R .links (4608 + m) (omega arith)
+            ∙ in-rest (4608 + m) (omega arith) (omega arith) (λ e. a (omega arith)) (λ k lk e g. let km : m ≡ k = omega arith in b (sym en ∙ e ∙ ap suc (sym km)))
+            ∙ half-z (4608 + m) (omega arith)
+
+        in-bucket-k : (k : ℕ) → 4864 ≤ k → k < 5120 → halfAt k ws ≡ halfAt k zs
+        in-bucket-k k a b = R .links k b ∙ in-rest k (omega arith) (omega arith) (omega arith) (λ m lm e g. omega arith)
+
+        in-bucket-s : bucketOf ws s ≡ list
+        in-bucket-s =
+            in-bucket-k (4864 + s) (omega arith) (omega arith) ∙ ap (halfAt (4864 + s)) ez
+            ∙ half-same (4864 + s) list ys (omega arith) long-y (omega arith)
+
+        in-bucket : (x : ℕ) → x < 256 → (x ≡ s → ⊥) → bucketOf ws x ≡ bucketOf xs x
+        in-bucket x l ne = in-bucket-k (4864 + x) (omega arith) (omega arith) ∙ half-z (4864 + x) (omega arith)
+
+        in-head : (l : ℕ) → l < 4352 → (l ≡ list → ⊥) → headOf vs l ≡ headOf xs l
+        in-head l h ne = in-rest (256 + l) hit (omega arith) (omega arith) (λ m lm e g. omega arith) ∙ half-z (256 + l) (omega arith)
+          where
+            hit : 256 + l ≡ p → ⊥
+            hit e =
+                let q : 256 ≤ p = omega arith in
+                let a : p - 256 ≡ list = sym (list-head (bucketOf xs) p q) ∙ P .list-is in
+                ne (omega arith)
+
+        bits : (k : ℕ) → 5120 ≤ k → halfAt k vs ≡ halfAt k xs
+        bits k h = in-rest k (omega arith) (omega arith) (omega arith) (λ m lm e g. omega arith) ∙ half-z k (omega arith)
+
+        pub put-in : Placed s d list xs ws
+        put-in = record {
+          changed =
+              changed xs ws T s d in-size in-this in-due in-bucket md
+              (λ _. (rw in-bucket-s ll, λ h. in-bucket-s ∙ lo (subst (λ (y : ℕ). 4096 ≤ y) in-bucket-s h)))
+              (lists-in 4608 (omega arith) (bucketOf xs) (dueOf xs) (nextOf xs) (prevOf xs) (bucketOf ws) (dueOf ws) (nextOf ws) (prevOf ws) s d p list
+              ls ed (λ z. omega arith) lp (P .live) (P .list-is) (P .below) (P .behind) in-bucket-s in-bucket
+              in-this in-due in-next-s in-next-p in-next-o in-prev-s in-prev-n in-prev-o (T .lists))
+              (R .tree long-v ll (headOf xs) in-head (tree-same (headOf xs) xs vs bits (T .tree)));
+          due-is = in-this;
+          bucket-is = in-bucket-s;
+        }
+
+-- a station that was taken out first
+pub put-after : {s d l : ℕ} {xs ys zs : List ℕ} → Gone s xs ys → Placed s d l ys zs → Placed s d l xs zs
+put-after G P = record {
+  changed = record {
+    table = P .changed .table;
+    dues = λ x lx ne. P .changed .dues x lx ne ∙ G .changed .dues x lx ne;
+    buckets = λ x lx ne. P .changed .buckets x lx ne ∙ G .changed .buckets x lx ne;
+  };
+  due-is = P .due-is;
+  bucket-is = P .bucket-is;
+}
+
+-- a station and a due number in range are not out of range
+pub put-nothing : (s d : ℕ) → s < 256 → (d ≡ 0 → ⊥) → d ≤ 1099511627776 → (256 ≤ s) ⊎ ((d ≡ 0) ⊎ (1099511627776 < d)) → ⊥
+put-nothing s d a b c (inl h) = omega arith
+put-nothing s d a b c (inr (inl h)) = b h
+put-nothing s d a b c (inr (inr h)) = omega arith

@@ -1,0 +1,22 @@
+-- The head of the first leaf.
+use native.Mathlib.Omega.{arith}
+use borrow.Author.Needs.{needs}
+use denote.Ref.{now}
+use Rattle.buckets.proofs.Firsts.{first-none, first-some}
+use Rattle.buckets.proofs.first.Statement.{statement}
+use Rattle.buckets.proofs.first.Tie as tie
+
+first-leaf-requires : tie.Need-first-leaf-requires
+first-leaf-requires c κs = search needs
+
+returns : tie.Need-returns
+returns c = (omega arith, λ T. first-none (now (c .before .before .before .args .b)) T _ _ (c .before .first-leaf .ensures .1 T) (c .if1 .taken))
+
+head-requires : tie.Need-head-requires
+head-requires c κs = search needs
+
+returns-2 : tie.Need-returns-2
+returns-2 c = (c .head .ensures .0, λ T. first-some (now (c .before .before .before .before .args .b)) T _ _ _ (omega arith) (c .before .if1 .left) (c .before .before .first-leaf .ensures .1 T) (c .head .ensures .1 T))
+
+pub first-spec : {M : Type 1} → statement M
+first-spec = tie.close (tie.spec first-leaf-requires returns head-requires returns-2)

@@ -1,0 +1,25 @@
+-- The head of a bucket leads to its least station.
+use native.Mathlib.Omega.{arith}
+use borrow.Author.Needs.{needs}
+use denote.Ref.{now}
+use Rattle.buckets.proofs.Heads.{head-of, head-within}
+use Rattle.buckets.proofs.head.Statement.{statement}
+use Rattle.buckets.proofs.head.Tie as tie
+
+add-half : tie.Need-add-half
+add-half c = search needs
+
+half-requires : tie.Need-half-requires
+half-requires c κs = search needs
+
+cast-h : tie.Need-cast-h
+cast-h c = search needs
+
+returns : tie.Need-returns
+returns c = (omega arith, λ T. absurd (head-within (now (c .before .before .before .args .b)) T _ _ (c .before .before .before .pre) (c .before .half .ensures) (c .if1 .taken)))
+
+returns-2 : tie.Need-returns-2
+returns-2 c = (omega arith, λ T. head-of (now (c .before .before .before .args .b)) T _ _ (c .before .before .before .pre) (c .before .half .ensures))
+
+pub head-spec : {M : Type 1} → statement M
+head-spec = tie.close (tie.spec add-half half-requires cast-h returns returns-2)

@@ -1,0 +1,55 @@
+-- The station is taken out where it is registered, then put in.
+use mathlib.Core.Path.{refl, subst}
+use Prim.Native.Nat.{ℕ}
+use native.Mathlib.Omega.{arith}
+use borrow.Author.Needs.{needs}
+use Rattle.buckets.specs.Table.{Placed}
+use Rattle.buckets.proofs.Takes.{kept-same, kept-on}
+use Rattle.buckets.proofs.Puts.{put-after, put-nothing}
+use Rattle.buckets.proofs.put.Statement.{statement}
+use Rattle.buckets.proofs.put.Tie as tie
+
+returns : tie.Need-returns
+returns c = (kept-same _, (λ h. refl, λ T l d m. absurd (omega arith)))
+
+returns-2 : tie.Need-returns-2
+returns-2 c = (kept-same _, (λ h. refl, λ T l d m. absurd (omega arith)))
+
+returns-3 : tie.Need-returns-3
+returns-3 c = (kept-same _, (λ h. refl, λ T l d m. absurd (omega arith)))
+
+take-requires : tie.Need-take-requires
+take-requires c κs = search needs
+
+bucket-requires : tie.Need-bucket-requires
+bucket-requires c κs = search needs
+
+insert-requires : tie.Need-insert-requires
+insert-requires c κs = search needs
+
+same-length : tie.Need-same-length
+same-length c = search needs
+
+returns-4 : tie.Need-returns-4
+returns-4 c = (
+  kept-on (c .before .before .before .before .before .before .before .take .ensures .0) (c .before .before .insert .ensures .0),
+  (
+    λ h. absurd (put-nothing _ _ (c .before .before .before .before .before .before .before .before .before .before .before .if1 .left) (c .before .before .before .before .before .before .before .before .before .before .if2 .left) (c .before .before .before .before .before .before .before .before .before .if3 .left) h),
+    λ T l d m.
+        let G = c .before .before .before .before .before .before .before .take .ensures .1 .1 T l in
+        put-after G (subst (λ (k : ℕ). Placed (c .before .before .before .before .before .before .before .before .before .before .before .before .before .args .s) (c .before .before .before .before .before .before .before .before .before .before .before .before .before .args .due) k (c .before .before .before .before .before .before .before .take .last .0) (c .before .before .insert .last .0)) (c .before .before .before .bucket .ensures .0) (c .before .before .insert .ensures .1 (G .changed .table) (G .due-is))),
+  ),
+)
+
+pub put-spec : {M : Type 1} → statement M
+put-spec =
+    tie.close
+    (tie.spec
+    returns
+    returns-2
+    returns-3
+    take-requires
+    bucket-requires
+    insert-requires
+    same-length
+    returns-4)

@@ -1,0 +1,65 @@
+-- The station's due is cleared, its neighbours are joined, and the bits above its bucket are refreshed.
+use borrow.Author.Needs.{needs}
+use Rattle.buckets.proofs.Takes.{take-kept, taken-out}
+use Rattle.buckets.proofs.unlink.Statement.{statement}
+use Rattle.buckets.proofs.unlink.Tie as tie
+
+add-half : tie.Need-add-half
+add-half c = search needs
+
+half-requires : tie.Need-half-requires
+half-requires c κs = search needs
+
+cast-p : tie.Need-cast-p
+cast-p c = search needs
+
+half-requires-2 : tie.Need-half-requires-2
+half-requires-2 c κs = search needs
+
+add-half-2 : tie.Need-add-half-2
+add-half-2 c = search needs
+
+half-requires-3 : tie.Need-half-requires-3
+half-requires-3 c κs = search needs
+
+cast-list : tie.Need-cast-list
+cast-list c = search needs
+
+add-set-word : tie.Need-add-set-word
+add-set-word c = search needs
+
+set-word-requires : tie.Need-set-word-requires
+set-word-requires c κs = search needs
+
+join-requires : tie.Need-join-requires
+join-requires c κs = search needs
+
+refresh-requires : tie.Need-refresh-requires
+refresh-requires c κs = search needs
+
+same-length : tie.Need-same-length
+same-length c = search needs
+
+returns : tie.Need-returns
+returns c = (
+  take-kept _ 0 _ _ _ _ _ _ _ (c .before .before .before .before .before .before .before .before .before .before .set-word .ensures) (c .before .before .before .before .before .before .join .ensures) (c .before .before .refresh .ensures),
+  λ T r. taken-out _ _ _ _ T _ _ _ _ (c .before .before .before .before .before .before .before .before .before .before .before .before .before .before .before .before .before .before .before .pre) r (c .before .before .before .before .before .before .before .before .before .before .before .before .before .before .before .before .half .ensures) (c .before .before .before .before .before .before .before .before .before .before .before .before .before .before .half2 .ensures) (c .before .before .before .before .before .before .before .before .before .before .before .before .half3 .ensures) (c .before .before .before .before .before .before .before .before .before .before .set-word .ensures) (c .before .before .before .before .before .before .join .ensures) (c .before .before .refresh .ensures),
+)
+
+pub unlink-spec : {M : Type 1} → statement M
+unlink-spec =
+    tie.close
+    (tie.spec
+    add-half
+    half-requires
+    cast-p
+    half-requires-2
+    add-half-2
+    half-requires-3
+    cast-list
+    add-set-word
+    set-word-requires
+    join-requires
+    refresh-requires
+    same-length
+    returns)

@@ -1,0 +1,5 @@
+pub mod Cells
+pub mod Lists
+pub mod Tree
+pub mod Table
+pub mod Steps
