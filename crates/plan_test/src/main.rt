@@ -79,18 +79,6 @@ fn letters(out: &mut [u8], at: usize, n: u8) {
 
 // ---- what is written
 
-fn number_of(r: Refusal) -> u64 {
-    match r {
-        Refusal::Shape => 1,
-        Refusal::Pair(_) => 2,
-        Refusal::Trailing => 3,
-        Refusal::Field(_) => 4,
-        Refusal::Name(_) => 5,
-        Refusal::Output => 18,
-        _ => 0,
-    }
-}
-
 fn station(k: u16) {
     io::write_all(STDOUT_FILENO, b" ");
     io::print_decimal(STDOUT_FILENO, k as u64);
@@ -98,7 +86,7 @@ fn station(k: u16) {
 
 fn refused(r: Refusal) {
     io::write_all(STDOUT_FILENO, b"no ");
-    io::print_decimal(STDOUT_FILENO, number_of(r));
+    io::print_decimal(STDOUT_FILENO, refusal::number(r));
     match r {
         Refusal::Pair(k) => station(k),
         Refusal::Field(k) => station(k),
