@@ -37,7 +37,7 @@ pub word-half : (k v : ℕ) (xs : List ℕ) (j : ℕ) → j < 264 → wordAt j (
 unfolding wordAt putHalf
 word-half k v xs j h = load-other 8 2 (2112 + 2 * k) v xs (8 * j) (inr (omega arith))
 
-pub half-same : (k v : ℕ) (xs : List ℕ) → k < 5409 → 12930 ≤ length xs → v < 2 ^ 16 → halfAt k (putHalf k v xs) ≡ v
+pub half-same : (k v : ℕ) (xs : List ℕ) → k < 5410 → 12932 ≤ length xs → v < 2 ^ 16 → halfAt k (putHalf k v xs) ≡ v
 unfolding halfAt putHalf
 half-same k v xs h l f = load-stored 2 (2112 + 2 * k) v xs (omega arith) f
 

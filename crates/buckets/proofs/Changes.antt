@@ -1,12 +1,12 @@
 -- One due is changed, and links and bits are right: the bytes are a table again.
-use mathlib.Core.Path.{_≡_, sym, ap, _∙_, subst}
+use mathlib.Core.Path.{_≡_, refl, sym, ap, _∙_, subst}
 use mathlib.Core.Logic.{_⊎_, inl, inr}
 use mathlib.Core.List.{List}
-use Prim.Native.Nat.{ℕ, _+_, _≤_, _<_}
+use Prim.Native.Nat.{ℕ, zero, suc, _+_, _≤_, _<_}
 use native.Mathlib.Omega.{arith}
 use lib.ListN.{length}
 use Rattle.buckets.specs.Cells.{halfAt}
-use Rattle.buckets.specs.Lists.{Lists}
+use Rattle.buckets.specs.Lists.{Live, Lists}
 use Rattle.buckets.specs.Tree.{Tree}
 use Rattle.buckets.specs.Table.{dueOf, bucketOf, nextOf, prevOf, nodeOf, rootOf, headOf, Due, Table, Changed}
 use Rattle.buckets.specs.Steps.{Chained}
@@ -16,12 +16,20 @@ use Rattle.buckets.proofs.TreeLaws.{sums-same}
 pub chained : {xs : List ℕ} → Table xs → Chained xs
 chained T = record { until = T .until; lists = T .lists }
 
+-- no link leads beyond the stations
+pub next-most : (xs : List ℕ) → Table xs → (p : ℕ) → p < 4608 → Live (dueOf xs) p → nextOf xs p ≤ 256
+next-most xs T p lp r = go (nextOf xs p) refl
+  where
+    go : (n : ℕ) → nextOf xs p ≡ n → n ≤ 256
+    go zero e = omega arith
+    go (suc m) e = let l = T .lists .front p lp r m e .station in omega arith
+
 -- the tree depends on the bits' words only
-pub tree-same : (head : ℕ → ℕ) (xs ys : List ℕ) → ((k : ℕ) → 5120 ≤ k → halfAt k ys ≡ halfAt k xs) → Tree 16 17 head (nodeOf xs) (rootOf xs)
+pub tree-same : (head : ℕ → ℕ) (xs ys : List ℕ) → ((k : ℕ) → 5121 ≤ k → halfAt k ys ≡ halfAt k xs) → Tree 16 17 head (nodeOf xs) (rootOf xs)
     → Tree 16 17 head (nodeOf ys) (rootOf ys)
 tree-same head xs ys h T = record {
-  leaves = sums-same 16 4352 (nodeOf xs) head (nodeOf ys) head (λ l lk. h _ (omega arith)) (λ l lk. mathlib.Core.Path.refl) (T .leaves);
-  nodes = sums-same 16 272 (rootOf xs) (nodeOf xs) (rootOf ys) (nodeOf ys) (λ l lk. h _ (omega arith)) (λ l lk. h (5120 + l) (omega arith)) (T .nodes);
+  leaves = sums-same 16 4352 (nodeOf xs) head (nodeOf ys) head (λ l lk. h _ (omega arith)) (λ l lk. refl) (T .leaves);
+  nodes = sums-same 16 272 (rootOf xs) (nodeOf xs) (rootOf ys) (nodeOf ys) (λ l lk. h _ (omega arith)) (λ l lk. h (5121 + l) (omega arith)) (T .nodes);
 }
 
 module _

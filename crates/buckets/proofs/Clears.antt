@@ -62,8 +62,8 @@ load-zero n i xs h = go (leb (i + n) (length xs))
     go true = le-zero n i xs h
     go false = refl
 
-module _ (xs ys : List ℕ) (i e : ℕ) (W : Wiped xs ys i) (past : e ≤ i) (short : e < 12930 → e ≡ length xs) where
-  zero-at : (k : ℕ) → 64 ≤ k → k < 12930 → getD ys k 0 ≡ 0
+module _ (xs ys : List ℕ) (i e : ℕ) (W : Wiped xs ys i) (past : e ≤ i) (short : e < 12932 → e ≡ length xs) where
+  zero-at : (k : ℕ) → 64 ≤ k → k < 12932 → getD ys k 0 ≡ 0
   zero-at k a b = go (lt-or k i)
     where
       go : (k < i) ⊎ (i ≤ k) → getD ys k 0 ≡ 0
@@ -74,7 +74,7 @@ module _ (xs ys : List ℕ) (i e : ℕ) (W : Wiped xs ys i) (past : e ≤ i) (sh
   unfolding wordAt
   due-zero x l = load-zero 8 (8 * (8 + x)) ys (λ k a b. zero-at k (omega arith) (omega arith))
 
-  half-zero : (k : ℕ) → k < 5409 → halfAt k ys ≡ 0
+  half-zero : (k : ℕ) → k < 5410 → halfAt k ys ≡ 0
   unfolding halfAt
   half-zero k l = load-zero 2 (2112 + 2 * k) ys (λ m a b. zero-at m (omega arith) (omega arith))
 
@@ -82,7 +82,7 @@ module _ (xs ys : List ℕ) (i e : ℕ) (W : Wiped xs ys i) (past : e ≤ i) (sh
   unfolding wordAt
   wiped-kept = record { size = W .size; words = λ j l. load-equal 8 (8 * j) xs ys (W .size) (λ k a b. W .low k (omega arith)) }
 
-  wiped-table : 12930 ≤ length xs → Table ys
+  wiped-table : 12932 ≤ length xs → Table ys
   wiped-table long = record {
     long = rw (W .size) long;
     until = λ x l. rw (due-zero x l) (omega arith);
@@ -93,8 +93,8 @@ module _ (xs ys : List ℕ) (i e : ℕ) (W : Wiped xs ys i) (past : e ≤ i) (sh
       front = λ p l r m q. absurd (let z : suc m ≡ 0 = sym q ∙ half-zero p (omega arith) in omega arith);
     };
     tree = record {
-      leaves = λ l h. ap (λ (y : ℕ). child 16 y (l % 16)) (half-zero (5120 + l / 16) (omega arith)) ∙ child-zero 16 (l % 16) ∙ sym (ap flag (half-zero (256 + l) (omega arith)));
-      nodes = λ l h. ap (λ (y : ℕ). child 16 y (l % 16)) (half-zero (5392 + l / 16) (omega arith)) ∙ child-zero 16 (l % 16) ∙ sym (ap flag (half-zero (5120 + l) (omega arith)));
+      leaves = λ l h. ap (λ (y : ℕ). child 16 y (l % 16)) (half-zero (5121 + l / 16) (omega arith)) ∙ child-zero 16 (l % 16) ∙ sym (ap flag (half-zero (256 + l) (omega arith)));
+      nodes = λ l h. ap (λ (y : ℕ). child 16 y (l % 16)) (half-zero (5393 + l / 16) (omega arith)) ∙ child-zero 16 (l % 16) ∙ sym (ap flag (half-zero (5121 + l) (omega arith)));
     };
   }
 

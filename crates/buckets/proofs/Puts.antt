@@ -11,18 +11,18 @@ use Rattle.buckets.specs.Steps.{Place, Joined, Refreshed}
 use Rattle.buckets.proofs.CellLaws.{length-word, length-half, word-same, word-other, word-half, half-same, half-other, half-word}
 use Rattle.buckets.proofs.Places.{list-head}
 use Rattle.buckets.proofs.ListIn.{lists-in}
-use Rattle.buckets.proofs.Changes.{tree-same, changed}
+use Rattle.buckets.proofs.Changes.{next-most, tree-same, changed}
 
 module _
     (s d p n list : ℕ) (xs ys zs us vs ws : List ℕ) (ls : s < 256)
-    (ey : ys ≡ putWord (8 + s) d xs) (ez : zs ≡ putHalf (4864 + s) list ys) (J : Joined s n zs us) (K : Joined p (suc s) us vs) (R : Refreshed list vs ws)
+    (ey : ys ≡ putWord (8 + s) d xs) (ez : zs ≡ putHalf (4865 + s) list ys) (J : Joined s n zs us) (K : Joined p (suc s) us vs) (R : Refreshed list vs ws)
   where
     in-size : length ws ≡ length xs
-    in-size = R .size ∙ K .size ∙ J .size ∙ ap length ez ∙ length-half (4864 + s) list ys ∙ ap length ey ∙ length-word (8 + s) d xs
+    in-size = R .size ∙ K .size ∙ J .size ∙ ap length ez ∙ length-half (4865 + s) list ys ∙ ap length ey ∙ length-word (8 + s) d xs
 
     in-word : (i : ℕ) → i < 264 → (i ≡ 8 + s → ⊥) → wordAt i ws ≡ wordAt i xs
     in-word i l ne =
-        R .words i l ∙ K .words i l ∙ J .words i l ∙ ap (wordAt i) ez ∙ word-half (4864 + s) list ys i l ∙ ap (wordAt i) ey ∙ word-other (8 + s) d xs i ne
+        R .words i l ∙ K .words i l ∙ J .words i l ∙ ap (wordAt i) ez ∙ word-half (4865 + s) list ys i l ∙ ap (wordAt i) ey ∙ word-other (8 + s) d xs i ne
 
     pub put-kept : Kept xs ws
     put-kept = record { size = in-size; words = λ i l. in-word i (omega arith) (omega arith) }
@@ -31,17 +31,20 @@ module _
         (T : Table xs) (ed : dueOf xs s ≡ 0) (pd : 0 < d) (md : d ≤ 1099511627776) (ll : list < 4352) (lo : 4096 ≤ list → list ≡ 4096 + s)
         (lp : p < 4608) (P : Place xs list (d * 256 + s) p) (en : n ≡ nextOf xs p)
       where
-        long-y : 12930 ≤ length ys
+        long-y : 12932 ≤ length ys
         long-y = rw (ey, length-word) (T .long)
 
-        long-z : 12930 ≤ length zs
+        long-z : 12932 ≤ length zs
         long-z = rw (ez, length-half) long-y
 
-        long-u : 12930 ≤ length us
+        long-u : 12932 ≤ length us
         long-u = rw (J .size) long-z
 
-        long-v : 12930 ≤ length vs
+        long-v : 12932 ≤ length vs
         long-v = rw (K .size) long-u
+
+        ln : n ≤ 256
+        ln = rw en (next-most xs T p lp (P .live))
 
         -- the station is not the place before it
         apart : s ≡ p → ⊥
@@ -50,32 +53,32 @@ module _
         in-this : dueOf ws s ≡ d
         in-this =
             R .words (8 + s) (omega arith) ∙ K .words (8 + s) (omega arith) ∙ J .words (8 + s) (omega arith) ∙ ap (wordAt (8 + s)) ez
-            ∙ word-half (4864 + s) list ys (8 + s) (omega arith) ∙ ap (wordAt (8 + s)) ey ∙ word-same (8 + s) d xs (omega (arith, T .long)) (omega arith)
+            ∙ word-half (4865 + s) list ys (8 + s) (omega arith) ∙ ap (wordAt (8 + s)) ey ∙ word-same (8 + s) d xs (omega (arith, T .long)) (omega arith)
 
         in-due : (x : ℕ) → x < 256 → (x ≡ s → ⊥) → dueOf ws x ≡ dueOf xs x
         in-due x l ne = in-word (8 + x) (omega arith) (omega arith)
 
-        half-z : (k : ℕ) → (k ≡ 4864 + s → ⊥) → halfAt k zs ≡ halfAt k xs
-        half-z k ne = ap (halfAt k) ez ∙ half-other (4864 + s) list ys k ne ∙ ap (halfAt k) ey ∙ half-word (8 + s) d xs k (omega arith)
+        half-z : (k : ℕ) → (k ≡ 4865 + s → ⊥) → halfAt k zs ≡ halfAt k xs
+        half-z k ne = ap (halfAt k) ez ∙ half-other (4865 + s) list ys k ne ∙ ap (halfAt k) ey ∙ half-word (8 + s) d xs k (omega arith)
 
         -- a half word that neither join touches
-        in-rest : (k : ℕ) → (k ≡ p → ⊥) → (k ≡ s → ⊥) → (k ≡ 4608 + s → ⊥) → ((m : ℕ) → m < 256 → n ≡ suc m → k ≡ 4608 + m → ⊥)
-            → halfAt k vs ≡ halfAt k zs
-        in-rest k a b c f =
-            K .others k a (λ m lm e g. let ms : m ≡ s = omega arith in c (g ∙ ap (λ (y : ℕ). 4608 + y) ms)) ∙ J .others k b f
+        in-rest : (k : ℕ) → (k ≡ p → ⊥) → (k ≡ s → ⊥) → (k ≡ 4609 + s → ⊥) → (k ≡ 4608 + n → ⊥) → halfAt k vs ≡ halfAt k zs
+        in-rest k a b c f = K .others k a (λ e. c (omega arith)) ∙ J .others k b f
 
         in-next-p : nextOf ws p ≡ suc s
-        in-next-p = R .links p (omega arith) ∙ K .next long-u lp
+        in-next-p = R .links p (omega arith) ∙ K .next long-u lp (omega arith)
 
         in-next-s : nextOf ws s ≡ nextOf xs p
         in-next-s =
-            R .links s (omega arith) ∙ K .others s apart (λ m lm e g. omega arith) ∙ J .next long-z (omega arith) ∙ en
+            R .links s (omega arith) ∙ K .others s apart (omega arith) ∙ J .next long-z (omega arith) ln ∙ en
 
         in-next-o : (q : ℕ) → q < 4608 → (q ≡ s → ⊥) → (q ≡ p → ⊥) → nextOf ws q ≡ nextOf xs q
-        in-next-o q l a b = R .links q (omega arith) ∙ in-rest q b a (omega arith) (λ m lm e g. omega arith) ∙ half-z q (omega arith)
+        in-next-o q l a b = R .links q (omega arith) ∙ in-rest q b a (omega arith) (omega arith) ∙ half-z q (omega arith)
 
         in-prev-s : prevOf ws s ≡ p
-        in-prev-s = R .links (4608 + s) (omega arith) ∙ K .prev long-u lp s ls refl
+        in-prev-s =
+            let k : 4609 + s ≡ 4608 + suc s = omega arith in
+            R .links (4609 + s) (omega arith) ∙ ap (λ (y : ℕ). halfAt y vs) k ∙ K .prev long-u lp (omega arith)
 
         -- the station behind p was there before
         in-behind : (m : ℕ) → nextOf xs p ≡ suc m → m ≡ s → ⊥
@@ -84,27 +87,29 @@ module _
         in-prev-n : (m : ℕ) → m < 256 → nextOf xs p ≡ suc m → prevOf ws m ≡ s
         in-prev-n m l e =
             let ne : m ≡ s → ⊥ = in-behind m e in
-            R .links (4608 + m) (omega arith) ∙ K .others (4608 + m) (omega arith) (λ k lk f g. ne (omega arith)) ∙ J .prev long-z (omega arith) m l (en ∙ e)
+            let k : 4609 + m ≡ 4608 + n = omega (arith, en, e) in
+            R .links (4609 + m) (omega arith) ∙ K .others (4609 + m) (omega arith) (λ z. ne (omega arith)) ∙ ap (λ (y : ℕ). halfAt y us) k
+            ∙ J .prev long-z (omega arith) ln
 
         in-prev-o : (m : ℕ) → m < 256 → (m ≡ s → ⊥) → (nextOf xs p ≡ suc m → ⊥) → prevOf ws m ≡ prevOf xs m
         in-prev-o m l a b =
-            R .links (4608 + m) (omega arith)
-            ∙ in-rest (4608 + m) (omega arith) (omega arith) (λ e. a (omega arith)) (λ k lk e g. let km : m ≡ k = omega arith in b (sym en ∙ e ∙ ap suc (sym km)))
-            ∙ half-z (4608 + m) (omega arith)
+            R .links (4609 + m) (omega arith)
+            ∙ in-rest (4609 + m) (omega arith) (omega arith) (λ e. a (omega arith)) (λ e. let k : n ≡ suc m = omega arith in b (sym en ∙ k))
+            ∙ half-z (4609 + m) (omega arith)
 
-        in-bucket-k : (k : ℕ) → 4864 ≤ k → k < 5120 → halfAt k ws ≡ halfAt k zs
-        in-bucket-k k a b = R .links k b ∙ in-rest k (omega arith) (omega arith) (omega arith) (λ m lm e g. omega arith)
+        in-bucket-k : (k : ℕ) → 4865 ≤ k → k < 5121 → halfAt k ws ≡ halfAt k zs
+        in-bucket-k k a b = R .links k b ∙ in-rest k (omega arith) (omega arith) (omega arith) (omega (arith, ln))
 
         in-bucket-s : bucketOf ws s ≡ list
         in-bucket-s =
-            in-bucket-k (4864 + s) (omega arith) (omega arith) ∙ ap (halfAt (4864 + s)) ez
-            ∙ half-same (4864 + s) list ys (omega arith) long-y (omega arith)
+            in-bucket-k (4865 + s) (omega arith) (omega arith) ∙ ap (halfAt (4865 + s)) ez
+            ∙ half-same (4865 + s) list ys (omega arith) long-y (omega arith)
 
         in-bucket : (x : ℕ) → x < 256 → (x ≡ s → ⊥) → bucketOf ws x ≡ bucketOf xs x
-        in-bucket x l ne = in-bucket-k (4864 + x) (omega arith) (omega arith) ∙ half-z (4864 + x) (omega arith)
+        in-bucket x l ne = in-bucket-k (4865 + x) (omega arith) (omega arith) ∙ half-z (4865 + x) (omega arith)
 
         in-head : (l : ℕ) → l < 4352 → (l ≡ list → ⊥) → headOf vs l ≡ headOf xs l
-        in-head l h ne = in-rest (256 + l) hit (omega arith) (omega arith) (λ m lm e g. omega arith) ∙ half-z (256 + l) (omega arith)
+        in-head l h ne = in-rest (256 + l) hit (omega arith) (omega arith) (omega arith) ∙ half-z (256 + l) (omega arith)
           where
             hit : 256 + l ≡ p → ⊥
             hit e =
@@ -112,8 +117,8 @@ module _
                 let a : p - 256 ≡ list = sym (list-head (bucketOf xs) p q) ∙ P .list-is in
                 ne (omega arith)
 
-        bits : (k : ℕ) → 5120 ≤ k → halfAt k vs ≡ halfAt k xs
-        bits k h = in-rest k (omega arith) (omega arith) (omega arith) (λ m lm e g. omega arith) ∙ half-z k (omega arith)
+        bits : (k : ℕ) → 5121 ≤ k → halfAt k vs ≡ halfAt k xs
+        bits k h = in-rest k (omega arith) (omega arith) (omega arith) (omega (arith, ln)) ∙ half-z k (omega arith)
 
         pub put-in : Placed s d list xs ws
         put-in = record {

@@ -18,36 +18,36 @@ refresh-nowhere list xs h = record { size = refl; words = λ i l. refl; links = 
 
 module _
     (list : ℕ) (xs ys zs : List ℕ) (y x : ℕ) (l : list < 4352)
-    (ey : ys ≡ putHalf (5120 + list / 16) y xs) (ez : zs ≡ putHalf (5392 + list / 256) x ys)
-    (Y : WithChild 16 (halfAt (5120 + list / 16) xs) (list % 16) (ltb 0 (halfAt (256 + list) xs)) y)
-    (X : WithChild 16 (halfAt (5392 + list / 256) ys) (list / 16 % 16) (ltb 0 y) x)
+    (ey : ys ≡ putHalf (5121 + list / 16) y xs) (ez : zs ≡ putHalf (5393 + list / 256) x ys)
+    (Y : WithChild 16 (halfAt (5121 + list / 16) xs) (list % 16) (ltb 0 (halfAt (256 + list) xs)) y)
+    (X : WithChild 16 (halfAt (5393 + list / 256) ys) (list / 16 % 16) (ltb 0 y) x)
   where
-    y-other : (k : ℕ) → (k ≡ 5120 + list / 16 → ⊥) → halfAt k ys ≡ halfAt k xs
-    y-other k ne = ap (halfAt k) ey ∙ half-other (5120 + list / 16) y xs k ne
+    y-other : (k : ℕ) → (k ≡ 5121 + list / 16 → ⊥) → halfAt k ys ≡ halfAt k xs
+    y-other k ne = ap (halfAt k) ey ∙ half-other (5121 + list / 16) y xs k ne
 
-    z-other : (k : ℕ) → (k ≡ 5392 + list / 256 → ⊥) → halfAt k zs ≡ halfAt k ys
-    z-other k ne = ap (halfAt k) ez ∙ half-other (5392 + list / 256) x ys k ne
+    z-other : (k : ℕ) → (k ≡ 5393 + list / 256 → ⊥) → halfAt k zs ≡ halfAt k ys
+    z-other k ne = ap (halfAt k) ez ∙ half-other (5393 + list / 256) x ys k ne
 
-    low : (k : ℕ) → k < 5120 → halfAt k zs ≡ halfAt k xs
+    low : (k : ℕ) → k < 5121 → halfAt k zs ≡ halfAt k xs
     low k h = z-other k (omega arith) ∙ y-other k (omega arith)
 
     node-other : (j : ℕ) → j < 272 → (j ≡ list / 16 → ⊥) → nodeOf zs j ≡ nodeOf xs j
-    node-other j h ne = z-other (5120 + j) (omega arith) ∙ y-other (5120 + j) (omega arith)
+    node-other j h ne = z-other (5121 + j) (omega arith) ∙ y-other (5121 + j) (omega arith)
 
     root-other : (r : ℕ) → (r ≡ list / 256 → ⊥) → rootOf zs r ≡ rootOf xs r
-    root-other r ne = z-other (5392 + r) (omega arith) ∙ y-other (5392 + r) (omega arith)
+    root-other r ne = z-other (5393 + r) (omega arith) ∙ y-other (5393 + r) (omega arith)
 
-    module _ (long : 12930 ≤ length xs) where
-      long-y : 12930 ≤ length ys
+    module _ (long : 12932 ≤ length xs) where
+      long-y : 12932 ≤ length ys
       long-y = rw (ey, length-half) long
 
       node-this : nodeOf zs (list / 16) ≡ y
       node-this =
-          z-other (5120 + list / 16) (omega arith) ∙ ap (halfAt (5120 + list / 16)) ey
-          ∙ half-same (5120 + list / 16) y xs (omega arith) long (Y .fits)
+          z-other (5121 + list / 16) (omega arith) ∙ ap (halfAt (5121 + list / 16)) ey
+          ∙ half-same (5121 + list / 16) y xs (omega arith) long (Y .fits)
 
       root-this : rootOf zs (list / 256) ≡ x
-      root-this = ap (halfAt (5392 + list / 256)) ez ∙ half-same (5392 + list / 256) x ys (omega arith) long-y (X .fits)
+      root-this = ap (halfAt (5393 + list / 256)) ez ∙ half-same (5393 + list / 256) x ys (omega arith) long-y (X .fits)
 
       above : list / 16 / 16 ≡ list / 256
       above = omega arith
@@ -61,7 +61,7 @@ module _
             (λ k lk ne. low (256 + k) (omega arith) ∙ same k lk ne)
             (T .leaves);
         nodes = sums-set 16 272 (rootOf xs) (nodeOf xs) (rootOf zs) (nodeOf zs) (list / 16) (lit< tt)
-            (rw (above, root-this, node-this) (rw (y-other (5392 + list / 256) (omega arith)) at X))
+            (rw (above, root-this, node-this) (rw (y-other (5393 + list / 256) (omega arith)) at X))
             (λ k lk ne. root-other (k / 16) (λ e. ne (e ∙ sym above)))
             (λ k lk ne. node-other k lk ne)
             (T .nodes);
@@ -69,8 +69,8 @@ module _
 
     pub refresh-done : Refreshed list xs zs
     refresh-done = record {
-      size = ap length ez ∙ length-half (5392 + list / 256) x ys ∙ ap length ey ∙ length-half (5120 + list / 16) y xs;
-      words = λ i h. ap (wordAt i) ez ∙ word-half (5392 + list / 256) x ys i h ∙ ap (wordAt i) ey ∙ word-half (5120 + list / 16) y xs i h;
+      size = ap length ez ∙ length-half (5393 + list / 256) x ys ∙ ap length ey ∙ length-half (5121 + list / 16) y xs;
+      words = λ i h. ap (wordAt i) ez ∙ word-half (5393 + list / 256) x ys i h ∙ ap (wordAt i) ey ∙ word-half (5121 + list / 16) y xs i h;
       links = low;
       tree = λ long _. refresh-tree long;
     }

@@ -11,7 +11,7 @@ use Rattle.buckets.specs.Steps.{Joined, Refreshed}
 use Rattle.buckets.proofs.CellLaws.{length-word, word-same, word-other, half-word}
 use Rattle.buckets.proofs.Places.{list-head, lists-at}
 use Rattle.buckets.proofs.ListOut.{lists-out}
-use Rattle.buckets.proofs.Changes.{tree-same, changed}
+use Rattle.buckets.proofs.Changes.{next-most, tree-same, changed}
 
 -- the caller's words stay, on any bytes
 pub take-kept : (s v p n list : ℕ) (xs ys zs us : List ℕ) → ys ≡ putWord (8 + s) v xs → Joined p n ys zs → Refreshed list zs us → Kept xs us
@@ -25,10 +25,10 @@ module _
     (ep : p ≡ prevOf xs s) (en : n ≡ nextOf xs s) (el : list ≡ bucketOf xs s)
     (ey : ys ≡ putWord (8 + s) 0 xs) (J : Joined p n ys zs) (R : Refreshed list zs us)
   where
-    long-y : 12930 ≤ length ys
+    long-y : 12932 ≤ length ys
     long-y = rw (ey, length-word) (T .long)
 
-    long-z : 12930 ≤ length zs
+    long-z : 12932 ≤ length zs
     long-z = rw (J .size) long-y
 
     B : Back 4608 (bucketOf xs) (dueOf xs) (nextOf xs) (prevOf xs s) s
@@ -39,6 +39,9 @@ module _
 
     ll : list < 4352
     ll = rw el (T .within s ls reg)
+
+    ln : n ≤ 256
+    ln = rw en (next-most xs T s (omega arith) (λ _. reg))
 
     out-word : (i : ℕ) → i < 264 → (i ≡ 8 + s → ⊥) → wordAt i us ≡ wordAt i xs
     out-word i l ne = R .words i l ∙ J .words i l ∙ ap (wordAt i) ey ∙ word-other (8 + s) 0 xs i ne
@@ -55,25 +58,27 @@ module _
     half-y k = ap (halfAt k) ey ∙ half-word (8 + s) 0 xs k (omega arith)
 
     out-next : nextOf us (prevOf xs s) ≡ nextOf xs s
-    out-next = ap (nextOf us) (sym ep) ∙ R .links p (omega (arith, lp)) ∙ J .next long-y lp ∙ en
+    out-next = ap (nextOf us) (sym ep) ∙ R .links p (omega (arith, lp)) ∙ J .next long-y lp ln ∙ en
 
     out-next-o : (q : ℕ) → q < 4608 → (q ≡ prevOf xs s → ⊥) → nextOf us q ≡ nextOf xs q
-    out-next-o q l ne = R .links q (omega arith) ∙ J .others q (λ e. ne (e ∙ ep)) (λ m lm e f. omega arith) ∙ half-y q
+    out-next-o q l ne = R .links q (omega arith) ∙ J .others q (λ e. ne (e ∙ ep)) (omega arith) ∙ half-y q
 
     out-prev : (m : ℕ) → m < 256 → nextOf xs s ≡ suc m → prevOf us m ≡ prevOf xs s
-    out-prev m l e = R .links (4608 + m) (omega arith) ∙ J .prev long-y lp m l (en ∙ e) ∙ ep
+    out-prev m l e =
+        let k : 4609 + m ≡ 4608 + n = omega (arith, en, e) in
+        R .links (4609 + m) (omega arith) ∙ ap (λ (y : ℕ). halfAt y zs) k ∙ J .prev long-y lp ln ∙ ep
 
     out-prev-o : (m : ℕ) → m < 256 → (nextOf xs s ≡ suc m → ⊥) → prevOf us m ≡ prevOf xs m
     out-prev-o m l ne =
-        R .links (4608 + m) (omega arith)
-        ∙ J .others (4608 + m) (omega (arith, lp)) (λ k lk e f. let km : m ≡ k = omega arith in ne (sym en ∙ e ∙ ap suc (sym km))) ∙ half-y (4608 + m)
+        R .links (4609 + m) (omega arith)
+        ∙ J .others (4609 + m) (omega (arith, lp)) (λ f. let k : n ≡ suc m = omega arith in ne (sym en ∙ k)) ∙ half-y (4609 + m)
 
     out-bucket : (x : ℕ) → x < 256 → bucketOf us x ≡ bucketOf xs x
-    out-bucket x l = R .links (4864 + x) (omega arith) ∙ J .others (4864 + x) (omega (arith, lp)) (λ m lm e f. omega arith) ∙ half-y (4864 + x)
+    out-bucket x l = R .links (4865 + x) (omega arith) ∙ J .others (4865 + x) (omega (arith, lp)) (omega (arith, ln)) ∙ half-y (4865 + x)
 
     -- the head of a bucket other than the station's own is not touched
     out-head : (l : ℕ) → l < 4352 → (l ≡ list → ⊥) → headOf zs l ≡ headOf xs l
-    out-head l h ne = J .others (256 + l) hit (λ m lm e f. omega arith) ∙ half-y (256 + l)
+    out-head l h ne = J .others (256 + l) hit (omega arith) ∙ half-y (256 + l)
       where
         hit : 256 + l ≡ p → ⊥
         hit e =
@@ -81,8 +86,8 @@ module _
             let a : prevOf xs s - 256 ≡ bucketOf xs s = sym (list-head (bucketOf xs) (prevOf xs s) q) ∙ B .list in
             ne (omega (arith, ep, a ∙ sym el))
 
-    bits : (k : ℕ) → 5120 ≤ k → halfAt k zs ≡ halfAt k xs
-    bits k h = J .others k (omega (arith, lp)) (λ m lm e f. omega arith) ∙ half-y k
+    bits : (k : ℕ) → 5121 ≤ k → halfAt k zs ≡ halfAt k xs
+    bits k h = J .others k (omega (arith, lp)) (omega (arith, ln)) ∙ half-y k
 
     pub taken-out : Gone s xs us
     taken-out = record {

@@ -1,4 +1,4 @@
--- The cells of the table: 264 words of 64 bits, of which the first 8 are the caller's, and from byte 2112 on 5409 half words of 16 bits.
+-- The cells of the table: 264 words of 64 bits, of which the first 8 are the caller's, and from byte 2112 on 5410 half words of 16 bits.
 use mathlib.Core.List.{List}
 use Prim.Native.Nat.{ℕ, _+_, _*_}
 use Rattle.words.specs.Le.{loadAt, storeAt}

@@ -20,20 +20,20 @@ pub record Place (xs : List ℕ) (list k p : ℕ) : Type 0 where
   pub below : rankOf (dueOf xs) p < k
   pub behind : (m : ℕ) → nextOf xs p ≡ suc m → k ≤ rankOf (dueOf xs) m
 
--- p leads to n, a station + 1 or 0, and the station back to p; nothing else is changed
+-- p leads to n, a station + 1 or 0, and that back to p: where n is 0 in a cell that no station has. Nothing else is changed
 pub record Joined (p n : ℕ) (xs ys : List ℕ) : Type 0 where
   pub size : length ys ≡ length xs
   pub words : (i : ℕ) → i < 264 → wordAt i ys ≡ wordAt i xs
-  pub next : 12930 ≤ length xs → p < 4608 → nextOf ys p ≡ n
-  pub prev : 12930 ≤ length xs → p < 4608 → (m : ℕ) → m < 256 → n ≡ suc m → prevOf ys m ≡ p
-  pub others : (k : ℕ) → (k ≡ p → ⊥) → ((m : ℕ) → m < 256 → n ≡ suc m → k ≡ 4608 + m → ⊥) → halfAt k ys ≡ halfAt k xs
+  pub next : 12932 ≤ length xs → p < 4608 → n ≤ 256 → nextOf ys p ≡ n
+  pub prev : 12932 ≤ length xs → p < 4608 → n ≤ 256 → halfAt (4608 + n) ys ≡ p
+  pub others : (k : ℕ) → (k ≡ p → ⊥) → (k ≡ 4608 + n → ⊥) → halfAt k ys ≡ halfAt k xs
 
 -- the bits above a bucket say whether it is empty, and nothing else is changed
 pub record Refreshed (list : ℕ) (xs ys : List ℕ) : Type 0 where
   pub size : length ys ≡ length xs
   pub words : (i : ℕ) → i < 264 → wordAt i ys ≡ wordAt i xs
-  pub links : (k : ℕ) → k < 5120 → halfAt k ys ≡ halfAt k xs
-  pub tree : 12930 ≤ length xs → list < 4352 → (head : ℕ → ℕ) → ((l : ℕ) → l < 4352 → (l ≡ list → ⊥) → headOf xs l ≡ head l)
+  pub links : (k : ℕ) → k < 5121 → halfAt k ys ≡ halfAt k xs
+  pub tree : 12932 ≤ length xs → list < 4352 → (head : ℕ → ℕ) → ((l : ℕ) → l < 4352 → (l ≡ list → ⊥) → headOf xs l ≡ head l)
       → Tree 16 17 head (nodeOf xs) (rootOf xs) → Tree 16 17 (headOf ys) (nodeOf ys) (rootOf ys)
 
 -- leaf l is filled, and no filled leaf comes before it in ring order; l is 4096 where none is filled

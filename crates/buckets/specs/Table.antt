@@ -16,7 +16,7 @@ dueOf xs s = wordAt (8 + s) xs
 
 -- the bucket in which the station s stands
 abbrev pub bucketOf : List ℕ → ℕ → ℕ
-bucketOf xs s = halfAt (4864 + s) xs
+bucketOf xs s = halfAt (4865 + s) xs
 
 -- the station is not absent
 abbrev pub Due : List ℕ → ℕ → Type 0
@@ -28,13 +28,13 @@ abbrev pub nextOf : List ℕ → ℕ → ℕ
 nextOf xs p = halfAt p xs
 
 abbrev pub prevOf : List ℕ → ℕ → ℕ
-prevOf xs s = halfAt (4608 + s) xs
+prevOf xs s = halfAt (4609 + s) xs
 
 abbrev pub nodeOf : List ℕ → ℕ → ℕ
-nodeOf xs j = halfAt (5120 + j) xs
+nodeOf xs j = halfAt (5121 + j) xs
 
 abbrev pub rootOf : List ℕ → ℕ → ℕ
-rootOf xs r = halfAt (5392 + r) xs
+rootOf xs r = halfAt (5393 + r) xs
 
 -- the head of a bucket: its first station + 1, or 0
 abbrev pub headOf : List ℕ → ℕ → ℕ
@@ -42,7 +42,7 @@ headOf xs l = nextOf xs (256 + l)
 
 -- the bytes are a table
 pub record Table (xs : List ℕ) : Type 0 where
-  pub long : 12930 ≤ length xs
+  pub long : 12932 ≤ length xs
   pub until : (x : ℕ) → x < 256 → dueOf xs x ≤ 1099511627776
   pub within : (x : ℕ) → x < 256 → Due xs x → bucketOf xs x < 4352
   -- a bucket of the overflow table is its station's own
@@ -106,5 +106,5 @@ pub record Later (xs : List ℕ) (from r : ℕ) : Type 0 where
 -- the caller's bytes are kept, and where the buffer is long enough it is a table without stations
 pub record Cleared (xs ys : List ℕ) : Type 0 where
   pub kept : Kept xs ys
-  pub table : 12930 ≤ length xs → Table ys
+  pub table : 12932 ≤ length xs → Table ys
   pub absent : (x : ℕ) → x < 256 → dueOf ys x ≡ 0

@@ -5,7 +5,7 @@
 // stand under 17 bitmap words: 16 nodes of 16 buckets each and a root. A bit is set exactly when something is below it.
 //
 // Layout, little-endian. The first 64 bytes are the caller's. Words of 64 bits from there on: due of station s at 64 + 8 s; 0 where it is absent. From
-// 2112 on half words of 16 bits: next of place p at p, prev of station s at 4608 + s, its bucket at 4864 + s, node j at 5120 + j, root r at 5392 + r.
+// 2112 on half words of 16 bits: next of place p at p, prev of station s at 4609 + s, its bucket at 4865 + s, node j at 5121 + j, root r at 5393 + r.
 // Place s below 256 is station s and place 256 + l the head of bucket l. A next is a station + 1, or 0 at the end.
 
 ghost use mathlib.Core.Path.{_≡_};
@@ -22,6 +22,10 @@ use bitmap::with_child;
 
 // The largest due number: H + 1.
 const LAST: u64 = 1099511627776;
+
+// The bytes of the table and of those before it. A call on a shorter buffer does nothing; with that known, the compiler leaves out the test of each
+// load and store.
+const BYTES: usize = 12932;
 
 // ---- cells
 
@@ -40,14 +44,14 @@ fn set_word(b: &mut [u8], i: usize, v: u64)
 }
 
 fn half(b: &[u8], k: usize) -> u16
-    requires { ⌜ k < 5409 ⌝ }
+    requires { ⌜ k < 5410 ⌝ }
     ensures { λ r. ⌜ r ≡ halfAt k (now (b .entry)) ⌝ }
 {
     words::load16(b, 2112 + 2 * k)
 }
 
 fn set_half(b: &mut [u8], k: usize, v: u16)
-    requires { ⌜ k < 5409 ⌝ }
+    requires { ⌜ k < 5410 ⌝ }
     ensures { λ _. ⌜ now (b .exit) ≡ putHalf k v (now (b .entry)) ⌝ }
 {
     words::store16(b, 2112 + 2 * k, v);
@@ -95,20 +99,18 @@ fn find(b: &[u8], list: usize, k: u64) -> usize
     }
 }
 
-// The place p leads to n, a station + 1 or 0, and that station back to p.
+// The place p leads to n, a station + 1 or 0, and that station back to p. Where n is 0 the way back goes to a cell that no station has: no test is needed.
 fn join(b: &mut [u8], p: usize, n: u16)
     ensures { λ _. ⌜ Joined p n (now (b .entry)) (now (b .exit)) ⌝ }
 {
     if 4608 <= p {
         return;
     }
-    set_half(b, p, n);
-    if n == 0 {
+    if 256 < n {
         return;
     }
-    if n <= 256 {
-        set_half(b, 4608 + (n as usize - 1), p as u16);
-    }
+    set_half(b, p, n);
+    set_half(b, 4608 + n as usize, p as u16);
 }
 
 // The two bits above a bucket say again whether it is empty.
@@ -120,14 +122,14 @@ fn refresh(b: &mut [u8], list: usize)
     }
     let j = list / 16;
     let y = with_child(
-        half(b, 5120 + j),
+        half(b, 5121 + j),
         (list % 16) as u32,
         0 < half(b, 256 + list),
     );
-    set_half(b, 5120 + j, y);
+    set_half(b, 5121 + j, y);
     let r = list / 256;
-    let x = with_child(half(b, 5392 + r), (j % 16) as u32, 0 < y);
-    set_half(b, 5392 + r, x);
+    let x = with_child(half(b, 5393 + r), (j % 16) as u32, 0 < y);
+    set_half(b, 5393 + r, x);
 }
 
 // A registered station is taken out of its bucket.
@@ -136,9 +138,9 @@ fn unlink(b: &mut [u8], s: usize)
     ensures kept { λ _. ⌜ Kept (now (b .entry)) (now (b .exit)) ⌝ }
     ensures gone { λ _. ⌜ (Table (now (b .entry)) → (dueOf (now (b .entry)) s ≡ 0 → ⊥) → Gone s (now (b .entry)) (now (b .exit))) ⌝ }
 {
-    let p = half(b, 4608 + s) as usize;
+    let p = half(b, 4609 + s) as usize;
     let n = half(b, s);
-    let list = half(b, 4864 + s) as usize;
+    let list = half(b, 4865 + s) as usize;
     set_word(b, 8 + s, 0);
     join(b, p, n);
     refresh(b, list);
@@ -153,7 +155,7 @@ fn insert(b: &mut [u8], s: usize, due: u64, list: usize)
     let p = find(b, list, due * 256 + s as u64);
     let n = half(b, p);
     set_word(b, 8 + s, due);
-    set_half(b, 4864 + s, list as u16);
+    set_half(b, 4865 + s, list as u16);
     join(b, s, n);
     join(b, p, (s + 1) as u16);
     refresh(b, list);
@@ -191,6 +193,9 @@ pub fn take(b: &mut [u8], s: usize)
     if 256 <= s {
         return;
     }
+    if b.len() < BYTES {
+        return;
+    }
     if word(b, 8 + s) == 0 {
         return;
     }
@@ -214,6 +219,9 @@ pub fn put(b: &mut [u8], s: usize, due: u64, leaf: usize)
     if LAST < due {
         return;
     }
+    if b.len() < BYTES {
+        return;
+    }
     take(b, s);
     insert(b, s, due, bucket(leaf, s));
 }
@@ -227,10 +235,10 @@ fn first_leaf(b: &[u8], slot: usize) -> usize
     let mut i: usize = 0;
     while i < 16 {
         let r = (slot + i) % 16;
-        let x = half(b, 5392 + r);
+        let x = half(b, 5393 + r);
         if x != 0 {
             let j = r * 16 + first_child(x) as usize;
-            let y = half(b, 5120 + j);
+            let y = half(b, 5121 + j);
             return j * 16 + first_child(y) as usize;
         }
         i += 1;
@@ -256,6 +264,9 @@ pub fn first(b: &[u8], slot: usize) -> usize
     ensures within { λ r. ⌜ r ≤ 256 ⌝ }
     ensures first { λ r. ⌜ (Table (now (b .entry)) → First (now (b .entry)) (slot % 16) r) ⌝ }
 {
+    if b.len() < BYTES {
+        return 0;
+    }
     let l = first_leaf(b, slot % 16);
     if 4096 <= l {
         return 0;
@@ -268,10 +279,13 @@ pub fn later(b: &[u8], from: usize) -> usize
     ensures within { λ r. ⌜ (r ≤ 256) × (r < 256 → from ≤ r) ⌝ }
     ensures first { λ r. ⌜ (Table (now (b .entry)) → Later (now (b .entry)) from r) ⌝ }
 {
+    if b.len() < BYTES {
+        return 256;
+    }
     let mut s = from;
     while s < 256 {
         let j = s / 16;
-        let c = first_from(half(b, 5376 + j), (s % 16) as u32) as usize;
+        let c = first_from(half(b, 5377 + j), (s % 16) as u32) as usize;
         if c < 16 {
             return j * 16 + c;
         }
@@ -282,12 +296,12 @@ pub fn later(b: &[u8], from: usize) -> usize
 
 // The end of the table's bytes; of the buffer where that is shorter.
 fn table_end(len: usize) -> usize
-    ensures { λ r. ⌜ (r ≤ len) × (r ≤ 12930) × (r < 12930 → r ≡ len) ⌝ }
+    ensures { λ r. ⌜ (r ≤ len) × (r ≤ 12932) × (r < 12932 → r ≡ len) ⌝ }
 {
-    if len < 12930 {
+    if len < 12932 {
         return len;
     }
-    12930
+    12932
 }
 
 // All stations become absent, whatever the bytes held.

@@ -6,17 +6,20 @@ use Rattle.buckets.proofs.Firsts.{first-none, first-some}
 use Rattle.buckets.proofs.first.Statement.{statement}
 use Rattle.buckets.proofs.first.Tie as tie
 
+returns : tie.Need-returns
+returns c = (omega arith, λ T. absurd (omega (arith, T .long)))
+
 first-leaf-requires : tie.Need-first-leaf-requires
 first-leaf-requires c κs = search needs
 
-returns : tie.Need-returns
-returns c = (omega arith, λ T. first-none (now (c .before .before .before .args .b)) T _ _ (c .before .first-leaf .ensures .1 T) (c .if1 .taken))
+returns-2 : tie.Need-returns-2
+returns-2 c = (omega arith, λ T. first-none (now (c .before .before .before .before .args .b)) T _ _ (c .before .first-leaf .ensures .1 T) (c .if2 .taken))
 
 head-requires : tie.Need-head-requires
 head-requires c κs = search needs
 
-returns-2 : tie.Need-returns-2
-returns-2 c = (c .head .ensures .0, λ T. first-some (now (c .before .before .before .before .args .b)) T _ _ _ (omega arith) (c .before .if1 .left) (c .before .before .first-leaf .ensures .1 T) (c .head .ensures .1 T))
+returns-3 : tie.Need-returns-3
+returns-3 c = (c .head .ensures .0, λ T. first-some (now (c .before .before .before .before .before .args .b)) T _ _ _ (omega arith) (c .before .if2 .left) (c .before .before .first-leaf .ensures .1 T) (c .head .ensures .1 T))
 
 pub first-spec : {M : Type 1} → statement M
-first-spec = tie.close (tie.spec first-leaf-requires returns head-requires returns-2)
+first-spec = tie.close (tie.spec returns first-leaf-requires returns-2 head-requires returns-3)

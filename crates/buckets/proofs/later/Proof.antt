@@ -13,6 +13,9 @@ Inv-loop b from s₀ s = (from ≤ s) × (Table b → NoneTo b from s)
 abbrev μ-loop : tie.MeasureT-loop
 μ-loop b from s₀ s = 256 - s
 
+returns : tie.Need-returns Inv-loop μ-loop
+returns c = ((omega arith, λ l. absurd (omega arith)), λ T. absurd (omega (arith, T .long)))
+
 loop-holds : tie.Need-loop-holds Inv-loop μ-loop
 loop-holds c = (omega arith, λ T. none-start _ _)
 
@@ -37,10 +40,10 @@ mul-result c = omega arith
 add-result : tie.Need-add-result Inv-loop μ-loop
 add-result c = omega arith
 
-returns : tie.Need-returns Inv-loop μ-loop
-returns c = (
-  (omega arith, λ l. omega (arith, c .before .first-from .ensures .from (c .if1 .taken))),
-  λ T. found _ T _ _ _ _ (c .before .before .before .loop-test .taken) (c .before .before .before .before .loop .inv .1 T) (c .before .before .half .ensures) (c .before .first-from .ensures) (c .if1 .taken),
+returns-2 : tie.Need-returns-2 Inv-loop μ-loop
+returns-2 c = (
+  (omega arith, λ l. omega (arith, c .before .first-from .ensures .from (c .if2 .taken))),
+  λ T. found _ T _ _ _ _ (c .before .before .before .loop-test .taken) (c .before .before .before .before .loop .inv .1 T) (c .before .before .half .ensures) (c .before .first-from .ensures) (c .if2 .taken),
 )
 
 mul-s : tie.Need-mul-s Inv-loop μ-loop
@@ -53,10 +56,10 @@ loop-less : tie.Need-loop-less Inv-loop μ-loop
 loop-less c = omega arith
 
 loop-again : tie.Need-loop-again Inv-loop μ-loop
-loop-again c = (omega arith, λ T. none-on _ T _ _ _ _ (c .before .before .before .loop-test .taken) (c .before .before .before .before .loop .inv .1 T) (c .before .before .half .ensures) (c .before .first-from .ensures) (c .if1 .left))
+loop-again c = (omega arith, λ T. none-on _ T _ _ _ _ (c .before .before .before .loop-test .taken) (c .before .before .before .before .loop .inv .1 T) (c .before .before .half .ensures) (c .before .first-from .ensures) (c .if2 .left))
 
-returns-2 : tie.Need-returns-2 Inv-loop μ-loop
-returns-2 c = ((omega arith, λ l. absurd (omega arith)), λ T. none-end _ _ _ (c .loop-test .left) (c .before .loop .inv .1 T))
+returns-3 : tie.Need-returns-3 Inv-loop μ-loop
+returns-3 c = ((omega arith, λ l. absurd (omega arith)), λ T. none-end _ _ _ (c .loop-test .left) (c .before .loop .inv .1 T))
 
 pub later-spec : {M : Type 1} → statement M
 later-spec =
@@ -64,6 +67,7 @@ later-spec =
     (tie.spec
     Inv-loop
     μ-loop
+    returns
     loop-holds
     add-half
     half-requires
@@ -72,9 +76,9 @@ later-spec =
     cast-c
     mul-result
     add-result
-    returns
+    returns-2
     mul-s
     add-s
     loop-less
     loop-again
-    returns-2)
+    returns-3)

@@ -18,6 +18,9 @@ returns-2 c = (kept-same _, (λ h. refl, λ T l d m. absurd (omega arith)))
 returns-3 : tie.Need-returns-3
 returns-3 c = (kept-same _, (λ h. refl, λ T l d m. absurd (omega arith)))
 
+returns-4 : tie.Need-returns-4
+returns-4 c = (kept-same _, (λ h. refl, λ T l d m. absurd (omega (arith, T .long))))
+
 take-requires : tie.Need-take-requires
 take-requires c κs = search needs
 
@@ -30,14 +33,16 @@ insert-requires c κs = search needs
 same-length : tie.Need-same-length
 same-length c = search needs
 
-returns-4 : tie.Need-returns-4
-returns-4 c = (
+returns-5 : tie.Need-returns-5
+returns-5 c = (
   kept-on (c .before .before .before .before .before .before .before .take .ensures .0) (c .before .before .insert .ensures .0),
   (
-    λ h. absurd (put-nothing _ _ (c .before .before .before .before .before .before .before .before .before .before .before .if1 .left) (c .before .before .before .before .before .before .before .before .before .before .if2 .left) (c .before .before .before .before .before .before .before .before .before .if3 .left) h),
+    λ h. absurd (put-nothing _ _ (c .before .before .before .before .before .before .before .before .before .before .before .before .if1 .left) (c .before .before .before .before .before .before .before .before .before .before .before .if2 .left) (c .before .before .before .before .before .before .before .before .before .before .if3 .left) h),
     λ T l d m.
         let G = c .before .before .before .before .before .before .before .take .ensures .1 .1 T l in
-        put-after G (subst (λ (k : ℕ). Placed (c .before .before .before .before .before .before .before .before .before .before .before .before .before .args .s) (c .before .before .before .before .before .before .before .before .before .before .before .before .before .args .due) k (c .before .before .before .before .before .before .before .take .last .0) (c .before .before .insert .last .0)) (c .before .before .before .bucket .ensures .0) (c .before .before .insert .ensures .1 (G .changed .table) (G .due-is))),
+        put-after G
+        (subst (λ (k : ℕ). Placed (c .before .before .before .before .before .before .before .before .before .before .before .before .before .before .args .s) (c .before .before .before .before .before .before .before .before .before .before .before .before .before .before .args .due) k (c .before .before .before .before .before .before .before .take .last .0) (c .before .before .insert .last .0)) (c .before .before .before .bucket .ensures .0)
+        (c .before .before .insert .ensures .1 (G .changed .table) (G .due-is))),
   ),
 )
 
@@ -48,8 +53,9 @@ put-spec =
     returns
     returns-2
     returns-3
+    returns-4
     take-requires
     bucket-requires
     insert-requires
     same-length
-    returns-4)
+    returns-5)

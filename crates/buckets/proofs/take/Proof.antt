@@ -9,6 +9,9 @@ use Rattle.buckets.proofs.take.Tie as tie
 returns : tie.Need-returns
 returns c = (kept-same _, (λ h. refl, λ T l. absurd (omega arith)))
 
+returns-2 : tie.Need-returns-2
+returns-2 c = (kept-same _, (λ h. refl, λ T l. absurd (omega (arith, T .long))))
+
 add-word : tie.Need-add-word
 add-word c = search needs
 
@@ -18,8 +21,8 @@ word-requires c κs = search needs
 same-length : tie.Need-same-length
 same-length c = search needs
 
-returns-2 : tie.Need-returns-2
-returns-2 c = (kept-same _, (λ h. refl, λ T l. gone-already _ _ T (sym (c .before .word .ensures) ∙ c .if2 .taken)))
+returns-3 : tie.Need-returns-3
+returns-3 c = (kept-same _, (λ h. refl, λ T l. gone-already _ _ T (sym (c .before .word .ensures) ∙ c .if3 .taken)))
 
 unlink-requires : tie.Need-unlink-requires
 unlink-requires c κs = search needs
@@ -27,18 +30,19 @@ unlink-requires c κs = search needs
 same-length-2 : tie.Need-same-length-2
 same-length-2 c = search needs
 
-returns-3 : tie.Need-returns-3
-returns-3 c = (c .before .before .unlink .ensures .0, (λ h. absurd (omega arith), λ T l. c .before .before .unlink .ensures .1 T (λ z. c .before .before .before .before .if2 .left (c .before .before .before .before .before .word .ensures ∙ z))))
+returns-4 : tie.Need-returns-4
+returns-4 c = (c .before .before .unlink .ensures .0, (λ h. absurd (omega arith), λ T l. c .before .before .unlink .ensures .1 T (λ z. c .before .before .before .before .if3 .left (c .before .before .before .before .before .word .ensures ∙ z))))
 
 pub take-spec : {M : Type 1} → statement M
 take-spec =
     tie.close
     (tie.spec
     returns
+    returns-2
     add-word
     word-requires
     same-length
-    returns-2
+    returns-3
     unlink-requires
     same-length-2
-    returns-3)
+    returns-4)

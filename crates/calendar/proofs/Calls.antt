@@ -1,0 +1,36 @@
+-- On the bytes that an opening and any calls after it left, every call answers by the rules' state of these calls.
+use mathlib.Core.Path.{_≡_, refl, sym, ap, _∙_, subst}
+use mathlib.Core.List.{List}
+use Prim.Native.Nat.{ℕ}
+use Rattle.refusal.specs.Tests.{Check, judged}
+use Rattle.calendar.specs.declared.Answer.{Answer}
+use Rattle.calendar.specs.declared.Least.{Least}
+use Rattle.calendar.specs.declared.Least.the-variants.{At}
+use Rattle.calendar.specs.Rules.{Calendar, lowestChecks, LeastAt, unregistered, registered, advanced}
+use Rattle.calendar.specs.Bytes.{Sound, stateOf}
+use Rattle.calendar.specs.Promises.{verdictOf, leastVerdict, Obeys, Names}
+use Rattle.calendar.specs.Left.{Left, by-open, by-register, by-unregister, by-extract, by-advance, by-refusal, by-none}
+
+-- the bytes are a calendar's and stand for that state
+pub left : {xs : List ℕ} {q : Calendar} → Left xs q → Sound xs × (stateOf xs ≡ q)
+left (by-open n w P) = (P .sound refl, P .state refl)
+left (by-register s t L P) = let H = left L in (P .sound (H .0), P .state (H .0) refl ∙ ap (λ (p : Calendar). registered p s t) (H .1))
+left (by-unregister s L P) = let H = left L in (P .sound (H .0), P .state (H .0) refl ∙ ap (λ (p : Calendar). unregistered p s) (H .1))
+left (by-extract s t L P) = let H = left L in (P .sound (H .0), P .state (H .0) s t refl ∙ ap (λ (p : Calendar). unregistered p s) (H .1))
+left (by-advance f L P) = let H = left L in (P .sound (H .0), P .state (H .0) refl ∙ ap (λ (p : Calendar). advanced p f) (H .1))
+left (by-refusal e checks after L P) = let H = left L in (P .sound (H .0), ap stateOf (P .refusal e refl) ∙ H .1)
+left (by-none e L P) = let H = left L in (P .sound (H .0), ap stateOf (P .refusal e refl) ∙ H .1)
+
+-- register, unregister and advance are judged by it
+pub left-answer : {xs ys : List ℕ} {q : Calendar} {checks : Calendar → List Check} {after : Calendar → Calendar} {r : Answer} → Left xs q
+    → Obeys checks after xs r ys → verdictOf r ≡ judged (checks q)
+left-answer {checks = checks} L P = let H = left L in P .answer (H .0) ∙ ap (λ (p : Calendar). judged (checks p)) (H .1)
+
+-- and so are lowest and extract
+pub left-names : {xs : List ℕ} {q : Calendar} {r : Least} → Left xs q → Names xs r
+    → (leastVerdict r ≡ judged (lowestChecks q)) × ((s t : ℕ) → r ≡ At s t → LeastAt (q .times) s t)
+left-names L P =
+    let H = left L in (
+      P .answer (H .0) ∙ ap (λ (p : Calendar). judged (lowestChecks p)) (H .1),
+      λ s t e. subst (λ (p : Calendar). LeastAt (p .times) s t) (H .1) (P .least (H .0) s t e),
+    )

@@ -1,0 +1,125 @@
+-- What `lowest`, `extract` and `early` answer for the first station.
+use mathlib.Core.Path.{_≡_, refl, sym, ap, _∙_, subst}
+use mathlib.Core.Bool.{Bool, true, false}
+use mathlib.Core.Option.{none, some}
+use mathlib.Core.List.{List}
+use Prim.Native.Nat.{ℕ, suc, _-_, _≤_, _<_}
+use native.Mathlib.Omega.{arith}
+use lib.Dec.{ltb}
+use lib.ListN.{getD}
+use Rattle.refusal.specs.declared.Refusal.{Refusal}
+use Rattle.refusal.specs.declared.Refusal.the-variants.{Idle}
+use Rattle.refusal.specs.Numbers.{numberOf}
+use Rattle.refusal.specs.Tests.{accepted, refused, orNext, judged}
+use Rattle.buckets.specs.Lists.{rankOf}
+use Rattle.buckets.specs.Table.{dueOf, Table, Kept, Gone}
+use Rattle.buckets.proofs.Places.{rank-station}
+use Rattle.calendar.specs.declared.Least.the-variants.{At, Refused}
+use Rattle.calendar.specs.Rules.{noneRegistered, anyBefore, lowestChecks, LeastAt, unregistered}
+use Rattle.calendar.specs.Bytes.{countOf, Sound, timeFor, stateOf}
+use Rattle.calendar.specs.Promises.{Names, Extracts}
+use Rattle.calendar.specs.Steps.{FirstOf, Entered}
+use Rattle.calendar.proofs.Tests.{none-false, any-least, any-none}
+use Rattle.calendar.proofs.States.{time-at, time-of, none-due, state-entered}
+use Rattle.calendar.proofs.Entering.{entered-gone}
+
+-- ---- the verdict
+
+idle : (xs : List ℕ) → noneRegistered (stateOf xs .times) ≡ true → refused 14 ≡ judged (lowestChecks (stateOf xs))
+unfolding judged orNext
+idle xs h = rw h
+
+busy : (xs : List ℕ) → noneRegistered (stateOf xs .times) ≡ false → accepted ≡ judged (lowestChecks (stateOf xs))
+unfolding judged orNext
+busy xs h = rw h
+
+-- a refusal says that nothing is registered
+refused-idle : (xs : List ℕ) (n : ℕ) → refused n ≡ judged (lowestChecks (stateOf xs)) → noneRegistered (stateOf xs .times) ≡ true
+unfolding judged orNext
+refused-idle xs n e = go (noneRegistered (stateOf xs .times)) refl
+  where
+    go : (b : Bool) → noneRegistered (stateOf xs .times) ≡ b → b ≡ true
+    go true q = refl
+    go false q = absurd (never (e ∙ sym (busy xs q)))
+      where
+        never : refused n ≡ accepted → ⊥
+        never z = let y : _≡_ {A = ℕ} 0 1 = cc in omega arith
+
+-- ---- lowest
+
+names-none : (xs : List ℕ) → (Sound xs → noneRegistered (stateOf xs .times) ≡ true) → Names xs (Refused Idle)
+names-none xs h = record {
+  answer = λ S. idle xs (h S);
+  least = λ S s t e. absurd (let z : _≡_ {A = ℕ} 0 1 = cc in omega arith);
+}
+
+module _ (xs : List ℕ) (h : ℕ) (F : Sound xs → FirstOf xs h) where
+  pub names-idle : h ≡ 0 → Names xs (Refused Idle)
+  names-idle z = names-none xs (λ S. none-due xs S (F S .none z))
+
+  module _ (d : ℕ) (nz : h ≡ 0 → ⊥) (lh : h ≤ 256) (ed : h - 1 < 256 → d ≡ dueOf xs (h - 1)) where
+    front : h ≡ suc (h - 1)
+    front = omega arith
+
+    due-is : d ≡ dueOf xs (h - 1)
+    due-is = ed (omega arith)
+
+    -- on a calendar's bytes the first station is registered
+    pub names-lost : d ≡ 0 → Names xs (Refused Idle)
+    names-lost z = names-none xs (λ S. absurd (F S .some (h - 1) front .1 (sym due-is ∙ z)))
+
+    pub names-at : (d ≡ 0 → ⊥) → Names xs (At (h - 1) (d - 1))
+    names-at dz = record {
+      answer = λ S. busy xs (none-false (stateOf xs .times) (h - 1) (d - 1) (has S));
+      least = λ S s t e.
+          let es : h - 1 ≡ s = cc in
+          let et : d - 1 ≡ t = cc in
+          subst (λ (y : ℕ). LeastAt (stateOf xs .times) y t) es (subst (λ (y : ℕ). LeastAt (stateOf xs .times) (h - 1) y) et (leads S));
+    }
+      where
+        has : Sound xs → getD (stateOf xs .times) (h - 1) none ≡ some (d - 1)
+        has S = time-at xs S (h - 1) (omega arith) (λ z. dz (due-is ∙ z)) ∙ ap (λ (y : ℕ). some (y - 1)) (sym due-is)
+
+        leads : Sound xs → LeastAt (stateOf xs .times) (h - 1) (d - 1)
+        leads S = record { has = has S; least = λ x u e. go S x u (time-of xs S x u e .1) (time-of xs S x u e .2) }
+          where
+            go : Sound xs → (x u : ℕ) → x < 256 → dueOf xs x ≡ suc u → d - 1 ≤ u
+            go S x u lx ex =
+                let k : rankOf (dueOf xs) (h - 1) ≤ rankOf (dueOf xs) x = F S .some (h - 1) front .2 x lx (λ z. absurd (omega arith)) in
+                omega (arith, due-is, rank-station (dueOf xs) (h - 1) (omega arith), rank-station (dueOf xs) x lx)
+
+-- ---- early
+
+module _ (xs : List ℕ) (f : ℕ) (S : Sound xs) where
+  pub early-at : (s t : ℕ) → Names xs (At s t) → ltb t f ≡ anyBefore f (stateOf xs .times)
+  early-at s t N = any-least f (stateOf xs .times) s t (N .least S s t refl)
+
+  pub early-none : (e : Refusal) → Names xs (Refused e) → false ≡ anyBefore f (stateOf xs .times)
+  early-none e N = any-none f (stateOf xs .times) (refused-idle xs (numberOf e) (N .answer S))
+
+-- ---- extract
+
+pub extract-none : (xs : List ℕ) (e : Refusal) → Names xs (Refused e) → Extracts xs (Refused e) xs
+extract-none xs e N = record {
+  refusal = λ _ _. refl;
+  names = N;
+  state = λ S s t q. absurd (let z : _≡_ {A = ℕ} 0 1 = cc in omega arith);
+  sound = λ S. S;
+}
+
+pub extract-at : (xs ys : List ℕ) (s t : ℕ) → Names xs (At s t) → Kept xs ys → (Table xs → s < 256 → Gone s xs ys) → Extracts xs (At s t) ys
+unfolding timeFor
+extract-at xs ys s t N K G = record {
+  refusal = λ e q. absurd (let z : _≡_ {A = ℕ} 0 1 = cc in omega arith);
+  names = N;
+  state = λ S u v q.
+      let es : s ≡ u = cc in
+      state-entered xs ys S s 0 (named S .0) (gone S) ∙ ap (unregistered (stateOf xs)) es;
+  sound = λ S. gone S .sound;
+}
+  where
+    named : Sound xs → (s < countOf xs) × (s < 256) × (dueOf xs s ≡ suc t)
+    named S = time-of xs S s t (N .least S s t refl .has)
+
+    gone : Sound xs → Entered s 0 xs ys
+    gone S = entered-gone xs ys S K s (G (S .table) (named S .1))

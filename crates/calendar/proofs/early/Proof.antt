@@ -1,0 +1,31 @@
+-- The least time decides.
+use mathlib.Core.Path.{subst}
+use borrow.Author.Needs.{needs}
+use Rattle.calendar.specs.Promises.{Names}
+use Rattle.calendar.proofs.Naming.{early-at, early-none}
+use Rattle.calendar.proofs.early.Statement.{statement}
+use Rattle.calendar.proofs.early.Tie as tie
+
+lowest-requires : tie.Need-lowest-requires
+lowest-requires c κs = search needs
+
+enum-known-at : tie.Need-enum-known-at
+enum-known-at c = search needs
+
+enum-told : tie.Need-enum-told
+enum-told c = search needs
+
+returns : tie.Need-returns
+returns c =
+    let args = c .before .before .before .before .before .args in
+    λ S. early-at (args .b .now) (args .floor) S (c .before .at .given .0 .0) (c .before .at .given .0 .1 .0)
+    (subst (Names (args .b .now)) (c .before .at .given .1) (c .before .before .before .lowest .ensures))
+
+returns-2 : tie.Need-returns-2
+returns-2 c =
+    let args = c .before .before .before .before .args in
+    λ S. early-none (args .b .now) (args .floor) S (c .enum-told .given .0 .0)
+    (subst (Names (args .b .now)) (c .enum-told .given .1) (c .before .before .lowest .ensures))
+
+pub early-spec : {M : Type 1} → statement M
+early-spec = tie.close (tie.spec lowest-requires enum-known-at enum-told returns returns-2)

@@ -1,0 +1,35 @@
+-- The first station in the leaves, or where all leaves are empty the nearest of the overflow table.
+use Prim.Native.Nat.{_%_}
+use borrow.Author.Needs.{needs}
+use Rattle.calendar.proofs.Order.{first-leaves, first-over}
+use Rattle.calendar.proofs.first.Statement.{statement}
+use Rattle.calendar.proofs.first.Tie as tie
+
+field-requires : tie.Need-field-requires
+field-requires c κs = search needs
+
+first-requires : tie.Need-first-requires
+first-requires c κs = search needs
+
+returns : tie.Need-returns
+returns c =
+    let field = c .before .before .field in (
+      c .before .first .ensures .0,
+      λ S. first-leaves (c .before .before .before .before .args .b .now) S (field .result) (c .before .first .result)
+          (field .ensures) (c .before .first .ensures .1 (S .table)) (c .if1 .taken),
+    )
+
+nearest-requires : tie.Need-nearest-requires
+nearest-requires c κs = search needs
+
+returns-2 : tie.Need-returns-2
+returns-2 c =
+    let args = c .before .before .before .before .before .args in
+    let first = c .before .before .first in (
+      c .nearest .ensures .0,
+      λ S. first-over (args .b .now) S (c .before .before .before .field .result % 16 % 16) (first .result)
+          (c .nearest .result) (first .ensures .1 (S .table)) (c .before .if1 .left) (c .nearest .ensures .1 S),
+    )
+
+pub first-spec : {M : Type 1} → statement M
+first-spec = tie.close (tie.spec field-requires first-requires returns nearest-requires returns-2)

@@ -1,0 +1,81 @@
+-- The leaf is computed from the start of the floor's block; behind the ring it is 4096.
+use mathlib.Core.Path.{sym}
+use Prim.Native.Nat.{_-_}
+use native.Mathlib.Omega.{arith}
+use borrow.Author.Needs.{needs}
+use Rattle.calendar.proofs.Leaves.{leaf-over, leaf-read, start-before}
+use Rattle.calendar.specs.Bytes.{widthOf, limitOf}
+use Rattle.calendar.proofs.leaf.Statement.{statement}
+use Rattle.calendar.proofs.leaf.Tie as tie
+
+field-requires : tie.Need-field-requires
+field-requires c κs = search needs
+
+returns : tie.Need-returns
+returns c =
+    let args = c .before .before .before .args in
+    λ H f. sym (leaf-over (widthOf (args .b .now)) (limitOf (args .b .now)) (args .time) (rw (← c .before .field .ensures) (c .if1 .taken)))
+
+field-requires-2 : tie.Need-field-requires-2
+field-requires-2 c κs = search needs
+
+returns-2 : tie.Need-returns-2
+returns-2 c =
+    let args = c .before .before .before .before .before .args in
+    λ H f. absurd (omega (arith, start-before (args .b .now) H (args .time) f, c .before .field2 .ensures, c .if2 .taken))
+
+field-requires-3 : tie.Need-field-requires-3
+field-requires-3 c κs = search needs
+
+cast-width : tie.Need-cast-width
+cast-width c = search needs
+
+returns-3 : tie.Need-returns-3
+returns-3 c = search needs
+
+cast-k : tie.Need-cast-k
+cast-k c = search needs
+
+div-k : tie.Need-div-k
+div-k c = search needs
+
+field-requires-4 : tie.Need-field-requires-4
+field-requires-4 c κs = search needs
+
+mul-result : tie.Need-mul-result
+mul-result c = search needs
+
+cast-result : tie.Need-cast-result
+cast-result c = search needs
+
+add-result : tie.Need-add-result
+add-result c = search needs
+
+returns-4 : tie.Need-returns-4
+returns-4 c =
+    let args = c .before .before .before .before .before .before .before .before .args in
+    let field = c .before .before .before .before .before .before .field in
+    let if1 = c .before .before .before .before .before .if1 in
+    let field2 = c .before .before .before .before .field2 in
+    let field3 = c .before .before .field3 in
+    λ H f. leaf-read (args .b .now) H (args .time) f (c .field4 .result) (field2 .result) (field3 .result) (field .result) (c .field4 .ensures)
+    (field2 .ensures) (field3 .ensures) (field .ensures) (if1 .left)
+
+pub leaf-spec : {M : Type 1} → statement M
+leaf-spec =
+    tie.close
+    (tie.spec
+    field-requires
+    returns
+    field-requires-2
+    returns-2
+    field-requires-3
+    cast-width
+    returns-3
+    cast-k
+    div-k
+    field-requires-4
+    mul-result
+    cast-result
+    add-result
+    returns-4)

@@ -1,0 +1,76 @@
+-- Before each turn, the stations below from stand where they belong. The measure is what is left of the 256 stations.
+use mathlib.Core.Path.{_≡_}
+use Prim.Native.Nat.{_≤_, _-_}
+use native.Mathlib.Omega.{arith}
+use lib.ListN.{length}
+use borrow.Author.Needs.{needs}
+use Rattle.calendar.proofs.Fetching.{SettledTo, settle-start, settle-step, settle-none, settle-end}
+use Rattle.calendar.proofs.settle.Statement.{statement}
+use Rattle.calendar.proofs.settle.Tie as tie
+
+abbrev Inv-loop : tie.InvT-loop
+Inv-loop b₀ from₀ b from = (from ≤ 256) × (length b ≡ length b₀) × SettledTo from b₀ b
+
+abbrev μ-loop : tie.MeasureT-loop
+μ-loop b₀ from₀ b from = 256 - from
+
+loop-holds : tie.Need-loop-holds Inv-loop μ-loop
+loop-holds c = (omega arith, search needs, settle-start (c .before .args .b .now))
+
+later-requires : tie.Need-later-requires Inv-loop μ-loop
+later-requires c κs = search needs
+
+same-length : tie.Need-same-length Inv-loop μ-loop
+same-length c = search needs
+
+returns : tie.Need-returns Inv-loop μ-loop
+returns c =
+    let args = c .before .before .before .before .before .before .args in
+    let loop = c .before .before .before .before .loop in
+    settle-none (args .b .now) (loop .b) (loop .from) (c .before .later .result) (loop .inv .2) (c .before .later .ensures .1) (c .if1 .taken)
+
+fetch-requires : tie.Need-fetch-requires Inv-loop μ-loop
+fetch-requires c κs = search needs
+
+add-from : tie.Need-add-from Inv-loop μ-loop
+add-from c = search needs
+
+loop-less : tie.Need-loop-less Inv-loop μ-loop
+loop-less c =
+    let later = c .before .before .before .before .before .later in
+    omega (arith, later .ensures .0 .1 (c .before .before .before .before .if1 .left))
+
+loop-again : tie.Need-loop-again Inv-loop μ-loop
+loop-again c =
+    let args = c .before .before .before .before .before .before .before .before .before .before .args in
+    let loop = c .before .before .before .before .before .before .before .before .loop in
+    let later = c .before .before .before .before .before .later in
+    let fetch = c .before .before .fetch in (
+      omega arith,
+      search needs,
+      settle-step (args .b .now) (loop .b) (fetch .last .0) (loop .from) (later .result) (loop .inv .2)
+          (later .ensures .1) (c .before .before .before .before .if1 .left) (fetch .ensures),
+    )
+
+same-length-2 : tie.Need-same-length-2 Inv-loop μ-loop
+same-length-2 c = search needs
+
+returns-2 : tie.Need-returns-2 Inv-loop μ-loop
+returns-2 c = settle-end (c .before .before .before .args .b .now) (c .before .loop .b) (c .before .loop .from) (c .before .loop .inv .2) (c .loop-test .left)
+
+pub settle-spec : {M : Type 1} → statement M
+settle-spec =
+    tie.close
+    (tie.spec
+    Inv-loop
+    μ-loop
+    loop-holds
+    later-requires
+    same-length
+    returns
+    fetch-requires
+    add-from
+    loop-less
+    loop-again
+    same-length-2
+    returns-2)

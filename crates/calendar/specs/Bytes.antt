@@ -1,0 +1,75 @@
+-- What a calendar's bytes stand for, and when they stand for a calendar.
+use mathlib.Core.Path.{_≡_}
+use mathlib.Core.Option.{Option, none, some}
+use mathlib.Core.List.{List, [], _∷_}
+use Prim.Native.Nat.{ℕ, zero, suc, _+_, _-_, _*_, _≤_, _<_}
+use lib.ListN.{length}
+use Rattle.refusal.specs.Tests.{horizon}
+use Rattle.buckets.specs.Cells.{wordAt}
+use Rattle.buckets.specs.Table.{dueOf, bucketOf, bucketFor, Due, Table}
+use Rattle.calendar.specs.Ring.{blockOf, slotOf, ringEnd, leafFor}
+use Rattle.calendar.specs.Rules.{Calendar}
+
+-- ---- the header
+
+abbrev pub widthOf : List ℕ → ℕ
+widthOf xs = wordAt 0 xs
+
+abbrev pub floorOf : List ℕ → ℕ
+floorOf xs = wordAt 1 xs
+
+-- where the floor's block starts and ends
+abbrev pub startOf : List ℕ → ℕ
+startOf xs = wordAt 2 xs
+
+abbrev pub endOf : List ℕ → ℕ
+endOf xs = wordAt 3 xs
+
+-- where the ring ends, and the slot of the floor's block
+abbrev pub limitOf : List ℕ → ℕ
+limitOf xs = wordAt 4 xs
+
+abbrev pub slotIn : List ℕ → ℕ
+slotIn xs = wordAt 5 xs
+
+-- the number of stations
+abbrev pub countOf : List ℕ → ℕ
+countOf xs = wordAt 6 xs
+
+pub record Header (xs : List ℕ) : Type 0 where
+  pub width-pos : 0 < widthOf xs
+  pub width-most : widthOf xs ≤ 1048576
+  pub floor-most : floorOf xs ≤ suc horizon
+  pub count-pos : 0 < countOf xs
+  pub count-most : countOf xs ≤ 256
+  pub start-is : startOf xs ≡ blockOf 16 (widthOf xs) (floorOf xs) * (widthOf xs * 256)
+  pub end-is : endOf xs ≡ (blockOf 16 (widthOf xs) (floorOf xs) + 1) * (widthOf xs * 256)
+  pub limit-is : limitOf xs ≡ ringEnd 16 (widthOf xs) (floorOf xs)
+  pub slot-is : slotIn xs ≡ slotOf 16 (widthOf xs) (floorOf xs)
+
+-- ---- the bytes are a calendar
+
+-- the bucket to which a station's time belongs
+abbrev pub homeOf : List ℕ → ℕ → ℕ
+homeOf xs x = bucketFor (leafFor 16 (widthOf xs) (limitOf xs) (dueOf xs x - 1)) x
+
+pub record Sound (xs : List ℕ) : Type 0 where
+  pub long : 32768 ≤ length xs
+  pub header : Header xs
+  pub table : Table xs
+  pub absent : (x : ℕ) → x < 256 → countOf xs ≤ x → dueOf xs x ≡ 0
+  pub since : (x : ℕ) → x < 256 → Due xs x → floorOf xs < dueOf xs x
+  pub homes : (x : ℕ) → x < 256 → Due xs x → bucketOf xs x ≡ homeOf xs x
+
+-- ---- the state that they stand for
+
+unfoldable pub timeFor : ℕ → Option ℕ
+timeFor zero = none
+timeFor (suc t) = some t
+
+unfoldable pub timesFrom : (ℕ → ℕ) → ℕ → ℕ → List (Option ℕ)
+timesFrom due i zero = []
+timesFrom due i (suc n) = timeFor (due i) ∷ timesFrom due (suc i) n
+
+unfoldable pub stateOf : List ℕ → Calendar
+stateOf xs = record { width = widthOf xs; floor = floorOf xs; times = timesFrom (dueOf xs) 0 (countOf xs) }

@@ -1,0 +1,50 @@
+-- What each call promises, on any bytes and on a calendar's. `Sound` is what an accepted opening and the calls after it leave; every promise keeps it.
+use mathlib.Core.Path.{_≡_}
+use mathlib.Core.List.{List}
+use Prim.Native.Nat.{ℕ}
+use lib.ListN.{length}
+use Rattle.refusal.specs.declared.Refusal.{Refusal}
+use Rattle.refusal.specs.Numbers.{numberOf}
+use Rattle.refusal.specs.Tests.{Check, Verdict, accepted, refused, judged}
+use Rattle.calendar.specs.declared.Answer.{Answer}
+use Rattle.calendar.specs.declared.Answer.the-variants.{Done, Refused}
+use Rattle.calendar.specs.declared.Least.{Least}
+use Rattle.calendar.specs.declared.Least.the-variants.{At, Refused as NoLeast}
+use Rattle.calendar.specs.Rules.{Calendar, openChecks, opened, unregistered, lowestChecks, LeastAt}
+use Rattle.calendar.specs.Bytes.{Sound, stateOf}
+
+-- ---- the number that an answer says
+
+abbrev pub verdictOf : Answer → Verdict
+verdictOf Done = accepted
+verdictOf (Refused e) = refused (numberOf e)
+
+abbrev pub leastVerdict : Least → Verdict
+leastVerdict (At s t) = accepted
+leastVerdict (NoLeast e) = refused (numberOf e)
+
+-- ---- the promises: of the bytes xs at entry, the answer r and the bytes ys at exit
+
+-- register, unregister and advance: their checks, and the state that they leave where none holds
+pub record Obeys (checks : Calendar → List Check) (after : Calendar → Calendar) (xs : List ℕ) (r : Answer) (ys : List ℕ) : Type 0 where
+  pub refusal : (e : Refusal) → r ≡ Refused e → ys ≡ xs
+  pub answer : Sound xs → verdictOf r ≡ judged (checks (stateOf xs))
+  pub state : Sound xs → r ≡ Done → stateOf ys ≡ after (stateOf xs)
+  pub sound : Sound xs → Sound ys
+
+pub record Names (xs : List ℕ) (r : Least) : Type 0 where
+  pub answer : Sound xs → leastVerdict r ≡ judged (lowestChecks (stateOf xs))
+  pub least : Sound xs → (s t : ℕ) → r ≡ At s t → LeastAt (stateOf xs .times) s t
+
+pub record Extracts (xs : List ℕ) (r : Least) (ys : List ℕ) : Type 0 where
+  pub refusal : (e : Refusal) → r ≡ NoLeast e → ys ≡ xs
+  pub names : Names xs r
+  pub state : Sound xs → (s t : ℕ) → r ≡ At s t → stateOf ys ≡ unregistered (stateOf xs) s
+  pub sound : Sound xs → Sound ys
+
+-- "An opening doesn't depend on what its buffer held before"
+pub record Opens (n w : ℕ) (xs : List ℕ) (r : Answer) (ys : List ℕ) : Type 0 where
+  pub refusal : (e : Refusal) → r ≡ Refused e → ys ≡ xs
+  pub answer : verdictOf r ≡ judged (openChecks n w (length xs))
+  pub state : r ≡ Done → stateOf ys ≡ opened n w
+  pub sound : r ≡ Done → Sound ys

@@ -1,0 +1,57 @@
+-- Each turn is one call.
+use mathlib.Core.Path.{_≡_, refl, _∙_}
+use Prim.Native.Nat.{_-_}
+use native.Mathlib.Omega.{arith}
+use borrow.Author.Needs.{needs}
+use lib.ListN.{length}
+use Rattle.calendar_test.proofs.calls.Statement.{statement}
+use Rattle.calendar_test.proofs.calls.Tie as tie
+
+abbrev Inv-loop : tie.InvT-loop
+Inv-loop b₀ n span seed count d₀ floor₀ i₀ b d floor i = length b ≡ length b₀
+
+abbrev μ-loop : tie.MeasureT-loop
+μ-loop b₀ n span seed count d₀ floor₀ i₀ b d floor i = count - i
+
+loop-holds : tie.Need-loop-holds Inv-loop μ-loop
+loop-holds c = refl
+
+call-requires : tie.Need-call-requires Inv-loop μ-loop
+call-requires c κs = search needs
+
+thrice-requires : tie.Need-thrice-requires Inv-loop μ-loop
+thrice-requires c κs = search needs
+
+raised-requires : tie.Need-raised-requires Inv-loop μ-loop
+raised-requires c κs = search needs
+
+add-i : tie.Need-add-i Inv-loop μ-loop
+add-i c = omega arith
+
+loop-less : tie.Need-loop-less Inv-loop μ-loop
+loop-less c = omega arith
+
+loop-again : tie.Need-loop-again Inv-loop μ-loop
+loop-again c = c .before .before .raised .kept .0 ∙ c .before .before .before .before .before .before .before .call .kept .0 ∙ c .before .before .before .before .before .before .before .before .before .before .loop .inv
+
+same-length : tie.Need-same-length Inv-loop μ-loop
+same-length c = c .before .loop .inv
+
+returns : tie.Need-returns Inv-loop μ-loop
+returns c = search needs
+
+pub calls-spec : {M : Type 1} → statement M
+calls-spec =
+    tie.close
+    (tie.spec
+    Inv-loop
+    μ-loop
+    loop-holds
+    call-requires
+    thrice-requires
+    raised-requires
+    add-i
+    loop-less
+    loop-again
+    same-length
+    returns)

@@ -1,0 +1,53 @@
+-- The call's promise is about the part, and the bytes on both sides stay.
+use mathlib.Core.Path.{sym, ap, subst, _∙_}
+use mathlib.Core.List.{_++_}
+use Prim.Native.Nat.{_-_}
+use native.Mathlib.Omega.{arith}
+use borrow.Rule.Slice.PartMut.{postOf, mid-len, take-put, drop-put}
+use borrow.Author.Needs.{needs}
+use denote.Ref.{now}
+use lib.ListN.{take, drop}
+use lib.Seq.{length-take-le, take-at, drop-at}
+use Rattle.calendar.specs.Rules.{Calendar, registerChecks, registered}
+use Rattle.calendar.specs.Promises.{Obeys}
+use Rattle.calendar_test.proofs.register_in.Statement.{statement}
+use Rattle.calendar_test.proofs.register_in.Tie as tie
+
+sub-register : tie.Need-sub-register
+sub-register c = search needs
+
+part-register-start : tie.Need-part-register-start
+part-register-start c = search needs
+
+part-register-end : tie.Need-part-register-end
+part-register-end c = search needs
+
+register-requires : tie.Need-register-requires
+register-requires c κs = search needs
+
+same-length : tie.Need-same-length
+same-length c = search needs
+
+returns : tie.Need-returns
+returns c =
+    let a = c .before .before .before .before .before .args in
+    let xs = now (c .before .before .before .before .before .args .b) in
+    let ys = c .before .before .register .last .0 in
+    let k = a .to - a .from in
+    let size = c .before .before .register .kept .0 ∙ mid-len (a .from) (a .to) xs (c .before .before .before .before .before .pre .1) in
+    let before = length-take-le (a .from) xs (omega (arith, c .before .before .before .before .before .pre)) in
+    let part = ap (take k) (drop-at (take (a .from) xs) (ys ++ postOf (a .from) k xs) (a .from) before) ∙ take-at ys (postOf (a .from) k xs) k size in (
+      subst (Obeys (λ (q : Calendar). registerChecks q (a .station) (a .time)) (λ (q : Calendar). registered q (a .station) (a .time)) (take k (drop (a .from) xs)) (c .before .before .register .result)) (sym part) (c .before .before .register .ensures),
+      (take-put (a .from) k xs ys (omega (arith, c .before .before .before .before .before .pre)), drop-put (a .from) (a .to) xs ys (c .before .before .before .before .before .pre .0) (c .before .before .before .before .before .pre .1) size),
+    )
+
+pub register-in-spec : {M : Type 1} → statement M
+register-in-spec =
+    tie.close
+    (tie.spec
+    sub-register
+    part-register-start
+    part-register-end
+    register-requires
+    same-length
+    returns)

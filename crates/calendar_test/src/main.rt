@@ -1,0 +1,339 @@
+// Runs calls on calendars and writes a line for each: the call with its numbers, then its answer. tools/calendar.py writes the same lines from a reading of
+// document 01 that shares nothing with the crates.
+ghost use mathlib.Core.Path.{_≡_};
+ghost use Prim.Native.Nat.{_-_, _≤_};
+ghost use lib.ListN.{length, take, drop};
+ghost use Rattle.calendar.specs.Rules.{registerChecks, registered};
+ghost use Rattle.calendar.specs.Promises.{Obeys};
+use calendar::Answer;
+use calendar::Least;
+use libc::STDOUT_FILENO;
+use refusal::Refusal;
+use std::num::wrapping_add_u64;
+
+// ---- a call and its line
+
+fn word(text: &[u8]) {
+    io::write_all(STDOUT_FILENO, text);
+}
+
+fn number(n: u64) {
+    io::write_all(STDOUT_FILENO, b" ");
+    io::print_decimal(STDOUT_FILENO, n);
+}
+
+fn no(r: Refusal) {
+    word(b": no");
+    number(refusal::number(r));
+    word(b"\n");
+}
+
+fn tell(a: Answer) {
+    match a {
+        Answer::Done => word(b": ok\n"),
+        Answer::Refused(r) => no(r),
+    }
+}
+
+fn tell_least(l: Least) {
+    match l {
+        Least::At { station, time } => {
+            word(b":");
+            number(station);
+            number(time);
+            word(b"\n");
+        }
+        Least::Refused(r) => no(r),
+    }
+}
+
+fn open(n: u64, width: u64, b: &mut [u8]) {
+    word(b"open");
+    number(n);
+    number(width);
+    number(b.len() as u64);
+    tell(calendar::open(n, width, b));
+}
+
+fn register(b: &mut [u8], station: u64, time: u64) {
+    word(b"register");
+    number(station);
+    number(time);
+    tell(calendar::register(b, station, time));
+}
+
+fn unregister(b: &mut [u8], station: u64) {
+    word(b"unregister");
+    number(station);
+    tell(calendar::unregister(b, station));
+}
+
+fn lowest(b: &[u8]) {
+    word(b"lowest");
+    tell_least(calendar::lowest(b));
+}
+
+fn extract(b: &mut [u8]) {
+    word(b"extract");
+    tell_least(calendar::extract(b));
+}
+
+fn advance(b: &mut [u8], floor: u64) {
+    word(b"advance");
+    number(floor);
+    tell(calendar::advance(b, floor));
+}
+
+// ---- openings
+
+fn openings() {
+    let mut b = [165u8; 32896];
+    open(2, 0, &mut b);
+    open(2, 1048577, &mut b);
+    open(0, 0, &mut b);
+    open(0, 64, &mut b);
+    open(257, 64, &mut b);
+    open(3, 64, &mut b);
+    open(2, 1048576, &mut b);
+    open(2, 1, &mut b);
+}
+
+// ---- each refusal, and the edges of the floor
+
+fn refusals() {
+    let mut b = [165u8; 33024];
+    open(4, 64, &mut b);
+    lowest(&b);
+    extract(&mut b);
+    register(&mut b, 4, 1099511627776);
+    register(&mut b, 3, 1099511627776);
+    unregister(&mut b, 4);
+    unregister(&mut b, 3);
+    register(&mut b, 3, 1099511627775);
+    lowest(&b);
+    advance(&mut b, 1099511627777);
+    advance(&mut b, 1099511627776);
+    advance(&mut b, 1099511627775);
+    advance(&mut b, 1099511627774);
+    register(&mut b, 2, 1099511627774);
+    register(&mut b, 2, 1099511627775);
+    lowest(&b);
+    unregister(&mut b, 2);
+    lowest(&b);
+    extract(&mut b);
+    lowest(&b);
+    advance(&mut b, 1099511627776);
+    register(&mut b, 2, 1099511627775);
+    lowest(&b);
+}
+
+// ---- the slips of the pseudo-code
+
+// A station that was taken out is gone from the table, and comes back at another time.
+fn taken() {
+    let mut b = [165u8; 33024];
+    open(4, 64, &mut b);
+    register(&mut b, 1, 100);
+    register(&mut b, 2, 5000);
+    unregister(&mut b, 1);
+    lowest(&b);
+    unregister(&mut b, 1);
+    register(&mut b, 1, 9000);
+    lowest(&b);
+    extract(&mut b);
+    extract(&mut b);
+    extract(&mut b);
+}
+
+// Leaves whose bits would be found in the other order, were they counted from the least significant.
+fn places() {
+    let mut b = [165u8; 33024];
+    open(4, 64, &mut b);
+    register(&mut b, 0, 192);
+    register(&mut b, 1, 768);
+    register(&mut b, 2, 3072);
+    register(&mut b, 3, 12288);
+    extract(&mut b);
+    extract(&mut b);
+    extract(&mut b);
+    extract(&mut b);
+}
+
+// Only the ring's last block has a time, and then no block.
+fn last_block() {
+    let mut b = [165u8; 33024];
+    open(4, 64, &mut b);
+    advance(&mut b, 16384);
+    register(&mut b, 1, 278527);
+    lowest(&b);
+    unregister(&mut b, 1);
+    lowest(&b);
+}
+
+// Times that wait in the overflow table, and that an advanced ring covers: they come before later ones of the ring.
+fn overflow() {
+    let mut b = [165u8; 33024];
+    open(4, 64, &mut b);
+    register(&mut b, 0, 262144);
+    register(&mut b, 1, 262143);
+    register(&mut b, 2, 600000);
+    register(&mut b, 3, 500000);
+    extract(&mut b);
+    lowest(&b);
+    advance(&mut b, 16383);
+    advance(&mut b, 16384);
+    register(&mut b, 1, 270000);
+    extract(&mut b);
+    extract(&mut b);
+    lowest(&b);
+    register(&mut b, 0, 500000);
+    lowest(&b);
+    advance(&mut b, 400000);
+    register(&mut b, 1, 599999);
+    extract(&mut b);
+    extract(&mut b);
+    extract(&mut b);
+    extract(&mut b);
+    extract(&mut b);
+}
+
+// ---- a calendar in a part of a larger buffer
+
+fn register_in(b: &mut [u8], from: usize, to: usize, station: u64, time: u64) -> Answer
+    requires { ⌜ (from ≤ to) × (to ≤ length (now b)) ⌝ }
+    ensures { λ r. ⌜ Obeys (λ q. registerChecks q station time) (λ q. registered q station time)
+        (take (to - from) (drop from (now (b .entry)))) r (take (to - from) (drop from (now (b .exit)))) ⌝ }
+    ensures before { λ _. ⌜ take from (now (b .exit)) ≡ take from (now (b .entry)) ⌝ }
+    ensures behind { λ _. ⌜ drop to (now (b .exit)) ≡ drop to (now (b .entry)) ⌝ }
+{
+    calendar::register(&mut b[from..to], station, time)
+}
+
+fn wide(x: u8) -> u64 {
+    x as u64
+}
+
+fn open_in(b: &mut [u8]) {
+    if b.len() < 34100 {
+        return;
+    }
+    open(4, 64, &mut b[1000..34100]);
+}
+
+fn tell_register_in(b: &mut [u8]) {
+    if b.len() < 34100 {
+        return;
+    }
+    word(b"register 2 77");
+    tell(register_in(b, 1000, 34100, 2, 77));
+}
+
+// .. and the bytes on both sides of the part.
+fn lowest_in(b: &[u8]) {
+    if b.len() < 34101 {
+        return;
+    }
+    lowest(&b[1000..34100]);
+    number(wide(b[999]));
+    number(wide(b[34100]));
+    word(b"\n");
+}
+
+fn part() {
+    let mut b = [165u8; 40000];
+    open_in(&mut b);
+    tell_register_in(&mut b);
+    lowest_in(&b);
+}
+
+// ---- drawn calls
+
+fn below(x: u32, n: u32) -> u32 {
+    if n == 0 {
+        return 0;
+    }
+    x % n
+}
+
+fn thrice(d: u32) -> u32 {
+    generator::drawn(generator::drawn(generator::drawn(d)))
+}
+
+// A time up to t after the floor; of sixteen one is after half the floor.
+fn time_after(floor: u64, t: u32) -> u64 {
+    if t % 16 == 0 {
+        return wrapping_add_u64(floor / 2, t as u64);
+    }
+    wrapping_add_u64(floor, t as u64)
+}
+
+// One call of a kind by the draw d, with a station up to n.
+fn call(b: &mut [u8], n: u16, span: u32, floor: u64, d: u32) {
+    let e = generator::drawn(d);
+    let station = below(e, n as u32 + 1) as u64;
+    let time = time_after(floor, below(generator::drawn(e), span));
+    let kind = d / 4096 % 8;
+    if kind < 4 {
+        return register(b, station, time);
+    }
+    if kind < 5 {
+        return unregister(b, station);
+    }
+    if kind < 6 {
+        return lowest(b);
+    }
+    extract(b)
+}
+
+fn floor_after(a: Answer, floor: u64, next: u64) -> u64 {
+    match a {
+        Answer::Done => next,
+        Answer::Refused(_) => floor,
+    }
+}
+
+// After every eighth call the floor rises by up to an eighth of the span, or that is refused.
+fn raised(b: &mut [u8], span: u32, floor: u64, d: u32, i: u32) -> u64 {
+    if i % 8 != 7 {
+        return floor;
+    }
+    let next = wrapping_add_u64(floor, below(d, span / 8 + 1) as u64);
+    word(b"advance");
+    number(next);
+    let a = calendar::advance(b, next);
+    tell(a);
+    floor_after(a, floor, next)
+}
+
+// So many calls from a seed.
+fn calls(b: &mut [u8], n: u16, span: u32, seed: u32, count: u32) {
+    let mut d = seed;
+    let mut floor: u64 = 0;
+    let mut i: u32 = 0;
+    while i < count {
+        call(&mut *b, n, span, floor, d);
+        d = thrice(d);
+        floor = raised(&mut *b, span, floor, d, i);
+        i += 1;
+    }
+}
+
+fn drawn(n: u16, width: u64, span: u32, seed: u32, count: u32) {
+    let mut b = [165u8; 49152];
+    open(n as u64, width, &mut b);
+    calls(&mut b, n, span, seed, count);
+}
+
+fn main() {
+    openings();
+    refusals();
+    taken();
+    places();
+    last_block();
+    overflow();
+    part();
+    drawn(5, 1, 9000, 1, 300);
+    drawn(256, 64, 400000, 77, 300);
+    drawn(40, 3, 20000, 12345, 300);
+    drawn(256, 1048576, 1000000000, 999, 200);
+}

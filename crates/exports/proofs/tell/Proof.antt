@@ -1,0 +1,41 @@
+-- A refusal's number, or 0 and the two numbers.
+use mathlib.Core.Path.{sym, ap, _∙_}
+use borrow.Author.Needs.{needs}
+use denote.Ref.{now}
+use Rattle.calendar.specs.declared.Least.{Least}
+use Rattle.exports.specs.Codes.{leastCode, found}
+use Rattle.exports.proofs.tell.Statement.{statement}
+use Rattle.exports.proofs.tell.Tie as tie
+
+enum-known-l : tie.Need-enum-known-l
+enum-known-l c = search needs
+
+element-write-at : tie.Need-element-write-at
+element-write-at c = search needs
+
+element-write-at-2 : tie.Need-element-write-at-2
+element-write-at-2 c = search needs
+
+enum-known-l-2 : tie.Need-enum-known-l-2
+enum-known-l-2 c = search needs
+
+number-requires : tie.Need-number-requires
+number-requires c κs = search needs
+
+returns : tie.Need-returns
+returns c = (sym (ap leastCode (c .before .l .given .1)), sym (ap (λ (x : Least). found x (now (c .before .before .before .args .at))) (c .before .l .given .1)))
+
+returns-2 : tie.Need-returns-2
+returns-2 c = (c .number .ensures ∙ sym (ap leastCode (c .before .before .l2 .given .1)), sym (ap (λ (x : Least). found x (now (c .before .before .before .before .args .at))) (c .before .before .l2 .given .1)))
+
+pub tell-spec : {M : Type 1} → statement M
+tell-spec =
+    tie.close
+    (tie.spec
+    enum-known-l
+    element-write-at
+    element-write-at-2
+    enum-known-l-2
+    number-requires
+    returns
+    returns-2)
