@@ -3,22 +3,15 @@ use mathlib.Core.Path.{_≡_, sym, ap, _∙_}
 use mathlib.Core.Logic.{_⊎_, inl, inr}
 use Prim.Native.Nat.{ℕ, zero, suc, _+_, _-_, _*_, _/_, _%_, _^_, _≤_, _<_}
 use native.Mathlib.Nat.{zero-div, mod-lt, div-eq-of-lt, div-eq-of-lt-le, lt-of-lt-of-le, le-refl, zero-lt-suc, one-mul, pow-suc, mul-comm, le-of-eq, mul-mod-left}
-use native.Mathlib.Decide.{decLt}
 use native.Mathlib.Omega.{arith}
 use lib.Pow.{pow-pos, pow-add, pow-lt, shl-shr}
 use lib.Bits.{bitXor, xor-shr, xor-step, differ}
 use lib.Arith.{mod-mul, digits-div, digits-mod}
+use Rattle.bitmap.proofs.Cases.{lt-or}
 
 -- bit n of x, 0 or 1
 abbrev pub bit : ℕ → ℕ → ℕ
 bit x n = x / 2 ^ n % 2
-
-pub lt-or-ge : (m n : ℕ) → (m < n) ⊎ (n ≤ m)
-lt-or-ge m n = go (decLt m n)
-  where
-    go : Dec (m < n) → (m < n) ⊎ (n ≤ m)
-    go (yes p) = inl p
-    go (no q) = inr (omega arith)
 
 pub bit-lt : (x n : ℕ) → bit x n < 2
 bit-lt x n = mod-lt (x / 2 ^ n) (zero-lt-suc 1)
@@ -62,7 +55,7 @@ bit-pow-low : (d m : ℕ) → bit (2 ^ (suc d + m)) m ≡ 0
 bit-pow-low d m = rw (pow-add, shl-shr, pow-suc, mul-mod-left)
 
 pub bit-pow-other : (n m : ℕ) → (m ≡ n → ⊥) → bit (2 ^ n) m ≡ 0
-bit-pow-other n m h = go (lt-or-ge m n)
+bit-pow-other n m h = go (lt-or m n)
   where
     go : (m < n) ⊎ (n ≤ m) → bit (2 ^ n) m ≡ 0
     go (inl l) =

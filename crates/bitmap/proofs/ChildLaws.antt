@@ -9,7 +9,8 @@ use lib.Pow.{pow-pos, pow-mono, pow-lt}
 use lib.Bits.{bitXor, xor-lt, differ}
 use lib.Count.{leadingZeros, leading-top, leading-of-zero, leading-le}
 use Rattle.bitmap.specs.Child.{child, FirstChild, FirstFrom, WithChild}
-use Rattle.bitmap.proofs.Bits.{lt-or-ge, bit, bit-lt, bit-zero, bit-high, bit-top, bit-xor, bit-pow-same, bit-pow-other, bit-mod}
+use Rattle.bitmap.proofs.Cases.{lt-or}
+use Rattle.bitmap.proofs.Bits.{bit, bit-lt, bit-zero, bit-high, bit-top, bit-xor, bit-pow-same, bit-pow-other, bit-mod}
 
 pub child-lt : (a x i : ℕ) → child a x i < 2
 unfolding child
@@ -65,7 +66,7 @@ rest-first a x i r h F = record {
 }
   where
     from : r < a → i ≤ r
-    from l = go (lt-or-ge r i)
+    from l = go (lt-or r i)
       where
         go : (r < i) ⊎ (i ≤ r) → i ≤ r
         go (inl q) = absurd (let e : 1 ≡ 0 = sym (F .set l) ∙ rest-none a x i r q h in omega arith)

@@ -1,2 +1,3 @@
+pub mod Cases
 pub mod Bits
 pub mod ChildLaws

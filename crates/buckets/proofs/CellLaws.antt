@@ -8,7 +8,7 @@ use lib.ListN.{length}
 use Rattle.words.specs.Le.{loadAt, storeAt}
 use Rattle.words.proofs.Laws.{Apart, load-other, load-stored, length-store}
 use Rattle.buckets.specs.Cells.{wordAt, putWord, halfAt, putHalf}
-use Rattle.buckets.proofs.Cases.{lt-or}
+use Rattle.bitmap.proofs.Cases.{lt-or}
 
 apart : (i n j m : ℕ) → (i < j → i + n ≤ j) → (j ≤ i → j + m ≤ i) → Apart i n j m
 apart i n j m f g = go (lt-or i j)

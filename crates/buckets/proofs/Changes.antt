@@ -10,7 +10,7 @@ use Rattle.buckets.specs.Lists.{Live, Lists}
 use Rattle.buckets.specs.Tree.{Tree}
 use Rattle.buckets.specs.Table.{dueOf, bucketOf, nextOf, prevOf, nodeOf, rootOf, headOf, Due, Table, Changed}
 use Rattle.buckets.specs.Steps.{Chained}
-use Rattle.buckets.proofs.Cases.{eq-or}
+use Rattle.bitmap.proofs.Cases.{eq-or}
 use Rattle.buckets.proofs.TreeLaws.{sums-same}
 
 pub chained : {xs : List ℕ} → Table xs → Chained xs

@@ -14,7 +14,7 @@ use Rattle.bitmap.proofs.ChildLaws.{child-zero}
 use Rattle.buckets.specs.Cells.{wordAt, halfAt}
 use Rattle.buckets.specs.Tree.{flag}
 use Rattle.buckets.specs.Table.{dueOf, Table, Kept, Cleared}
-use Rattle.buckets.proofs.Cases.{eq-or, lt-or}
+use Rattle.bitmap.proofs.Cases.{eq-or, lt-or}
 
 -- the bytes from 64 to i are 0, and the others are as they were
 pub record Wiped (xs ys : List ℕ) (i : ℕ) : Type 0 where

@@ -8,7 +8,7 @@ use Rattle.bitmap.specs.Child.{child, FirstChild}
 use Rattle.buckets.specs.Lists.{rankOf}
 use Rattle.buckets.specs.Table.{dueOf, bucketOf, nodeOf, rootOf, headOf, turnsTo, Due, Table, NotAfter, First}
 use Rattle.buckets.specs.Steps.{FirstLeaf, HeadOf}
-use Rattle.buckets.proofs.Cases.{eq-or, lt-or}
+use Rattle.bitmap.proofs.Cases.{eq-or, lt-or}
 use Rattle.buckets.proofs.TreeLaws.{set-above, some-above, some-below}
 use Rattle.buckets.proofs.Heads.{head-some}
 

@@ -7,7 +7,7 @@ use native.Mathlib.Omega.{arith}
 use Rattle.bitmap.specs.Child.{child, FirstFrom}
 use Rattle.buckets.specs.Cells.{halfAt}
 use Rattle.buckets.specs.Table.{nodeOf, headOf, Table, Waits, Later}
-use Rattle.buckets.proofs.Cases.{lt-or}
+use Rattle.bitmap.proofs.Cases.{lt-or}
 use Rattle.buckets.proofs.TreeLaws.{set-above, some-below}
 use Rattle.buckets.proofs.Heads.{waits-head, head-waits}
 

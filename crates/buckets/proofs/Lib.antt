@@ -1,4 +1,3 @@
-pub mod Cases
 pub mod CellLaws
 pub mod Header
 pub mod Places

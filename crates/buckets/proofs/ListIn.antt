@@ -6,7 +6,7 @@ use native.Mathlib.Nat.{lt-irrefl, le-refl}
 use native.Mathlib.Omega.{arith}
 use borrow.Author.Tests.{lt-ltb, le-ltb}
 use Rattle.buckets.specs.Lists.{Live, listOf, rankOf, Back, Front, Lists}
-use Rattle.buckets.proofs.Cases.{eq-or, lt-or}
+use Rattle.bitmap.proofs.Cases.{eq-or, lt-or}
 use Rattle.buckets.proofs.Places.{list-station, list-head, rank-station, rank-same, list-same, live-same, back-same, not-same}
 
 module _

@@ -10,7 +10,7 @@ use borrow.Author.Tests.{lt-ltb, le-ltb}
 use Rattle.bitmap.specs.Child.{child, WithChild}
 use Rattle.bitmap.proofs.ChildLaws.{child-zero}
 use Rattle.buckets.specs.Tree.{flag, Sums, Tree}
-use Rattle.buckets.proofs.Cases.{eq-or}
+use Rattle.bitmap.proofs.Cases.{eq-or}
 
 -- ---- the flag of a number
 

@@ -9,7 +9,7 @@ use native.Mathlib.Omega.{arith}
 use lib.Dec.{lit<}
 use Rattle.buckets.specs.Cells.{wordAt, putWord}
 use Rattle.buckets.specs.Table.{dueOf, bucketOf, bucketFor, Due}
-use Rattle.buckets.proofs.Cases.{lt-or}
+use Rattle.bitmap.proofs.Cases.{lt-or}
 use Rattle.calendar.specs.Ring.{blockOf, leafFor}
 use Rattle.calendar.specs.Bytes.{widthOf, floorOf, endOf, limitOf, countOf, homeOf, Header, Sound, stateOf}
 use Rattle.calendar.specs.Rules.{anyBefore}

@@ -6,7 +6,7 @@ use Prim.Native.Nat.{ℕ, suc, _+_, _-_, _*_, _/_, _%_, _≤_, _<_}
 use native.Mathlib.Omega.{arith}
 use Rattle.buckets.specs.Lists.{rankOf}
 use Rattle.buckets.specs.Table.{dueOf, bucketOf, bucketFor, Due, turnsTo, NotAfter, First, Waits}
-use Rattle.buckets.proofs.Cases.{eq-or, lt-or}
+use Rattle.bitmap.proofs.Cases.{eq-or, lt-or}
 use Rattle.buckets.proofs.Places.{rank-station}
 use Rattle.calendar.specs.Ring.{blockOf, leafFor}
 use Rattle.calendar.specs.Bytes.{widthOf, floorOf, limitOf, slotIn, Sound}

@@ -7,7 +7,7 @@ use native.Mathlib.Nat.{le-refl}
 use native.Mathlib.Omega.{arith}
 use Rattle.buckets.specs.Lists.{rankOf}
 use Rattle.buckets.specs.Table.{dueOf, Waits, Later}
-use Rattle.buckets.proofs.Cases.{eq-or, lt-or}
+use Rattle.bitmap.proofs.Cases.{eq-or, lt-or}
 use Rattle.buckets.proofs.Places.{rank-station}
 use Rattle.calendar.specs.Steps.{Nearest, Nearer}
 

@@ -11,7 +11,7 @@ use borrow.Author.Tests.{eq-eqb, ne-eqb}
 use Rattle.refusal.specs.Tests.{horizon}
 use Rattle.buckets.specs.Cells.{wordAt, putWord}
 use Rattle.buckets.specs.Table.{dueOf, bucketOf, Table}
-use Rattle.buckets.proofs.Cases.{eq-or}
+use Rattle.bitmap.proofs.Cases.{eq-or}
 use Rattle.buckets.proofs.CellLaws.{length-word, word-same, word-other}
 use Rattle.buckets.proofs.Header.{header-due, header-bucket, header-table}
 use Rattle.calendar.specs.Ring.{blockOf, slotOf, ringEnd}
