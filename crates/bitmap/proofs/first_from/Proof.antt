@@ -17,7 +17,12 @@ first-child-requires : tie.Need-first-child-requires
 first-child-requires c κs = search needs
 
 returns-2 : tie.Need-returns-2
-returns-2 c = rest-first 16 (c .before .before .before .args .x) (c .before .before .before .args .i) (c .first-child .result) (c .before .before .if1 .left) (subst (λ (y : ℕ). FirstChild 16 y (c .first-child .result)) (c .before .rest .ensures) (c .first-child .ensures))
+returns-2 c =
+    let args = c .before .before .before .args in
+    let if1 = c .before .before .if1 in
+    let rest = c .before .rest in
+    rest-first 16 (args .x) (args .i) (c .first-child .result) (if1 .left)
+    (subst (λ (y : ℕ). FirstChild 16 y (c .first-child .result)) (rest .ensures) (c .first-child .ensures))
 
 pub first-from-spec : {M : Type 1} → statement M
 first-from-spec = tie.close (tie.spec returns rest-requires first-child-requires returns-2)

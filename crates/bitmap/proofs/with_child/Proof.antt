@@ -21,10 +21,16 @@ bit-requires : tie.Need-bit-requires
 bit-requires c κs = search needs
 
 returns-2 : tie.Need-returns-2
-returns-2 c = (λ l. child-kept 16 _ _ _ _ (c .before .before .child-word .ensures) (omega arith) (c .if2 .taken ∙ c .before .bit .ensures), λ l. absurd (omega arith))
+returns-2 c =
+    let child-word = c .before .before .child-word in
+    let bit = c .before .bit in
+    (λ l. child-kept 16 _ _ _ _ (child-word .ensures) (omega arith) (c .if2 .taken ∙ bit .ensures), λ l. absurd (omega arith))
 
 returns-3 : tie.Need-returns-3
-returns-3 c = (λ l. child-toggled 16 _ _ _ _ (c .before .before .child-word .ensures) (omega arith) l (λ e. c .if2 .left (e ∙ sym (c .before .bit .ensures))), λ l. absurd (omega arith))
+returns-3 c =
+    let child-word = c .before .before .child-word in
+    let bit = c .before .bit in
+    (λ l. child-toggled 16 _ _ _ _ (child-word .ensures) (omega arith) l (λ e. c .if2 .left (e ∙ sym (bit .ensures))), λ l. absurd (omega arith))
 
 pub with-child-spec : {M : Type 1} → statement M
 with-child-spec =

@@ -28,7 +28,10 @@ loop-less : tie.Need-loop-less Inv-loop μ-loop
 loop-less c = omega arith
 
 loop-again : tie.Need-loop-again Inv-loop μ-loop
-loop-again c = (omega arith, wipe-on _ _ _ (c .before .loop .inv .0) (omega (arith, c .before .loop .inv .1 .size, c .before .before .table-end .ensures .0)) (c .before .loop .inv .1))
+loop-again c =
+    let table-end = c .before .before .table-end in
+    let loop = c .before .loop in
+    (omega arith, wipe-on _ _ _ (loop .inv .0) (omega (arith, loop .inv .1 .size, table-end .ensures .0)) (loop .inv .1))
 
 same-length : tie.Need-same-length Inv-loop μ-loop
 same-length c = c .before .loop .inv .1 .size

@@ -28,7 +28,10 @@ returns : tie.Need-returns Inv-loop μ-loop
 returns c = (c .before .before .loop .inv .0, way-end _ _ _ _ _ _ (c .before .before .loop .inv .1) (c .before .half .ensures) (c .if1 .taken))
 
 returns-2 : tie.Need-returns-2 Inv-loop μ-loop
-returns-2 c = (c .before .before .before .loop .inv .0, way-out _ _ _ _ _ _ (c .before .before .before .loop .inv .1) (c .before .before .before .loop .inv .0) (c .before .before .half .ensures) (c .if2 .taken))
+returns-2 c =
+    let loop = c .before .before .before .loop in
+    let half = c .before .before .half in
+    (loop .inv .0, way-out _ _ _ _ _ _ (loop .inv .1) (loop .inv .0) (half .ensures) (c .if2 .taken))
 
 sub-rank : tie.Need-sub-rank Inv-loop μ-loop
 sub-rank c = omega arith
@@ -37,10 +40,20 @@ rank-requires : tie.Need-rank-requires Inv-loop μ-loop
 rank-requires c κs = omega arith
 
 returns-3 : tie.Need-returns-3 Inv-loop μ-loop
-returns-3 c = (c .before .before .before .before .before .loop .inv .0, way-bad _ _ _ _ _ _ _ (c .before .before .before .before .before .loop .inv .1) (c .before .before .before .before .before .loop .inv .0) (c .before .before .before .before .half .ensures) (c .before .before .before .if1 .left) (c .before .rank .ensures) (c .if3 .taken))
+returns-3 c =
+    let loop = c .before .before .before .before .before .loop in
+    let half = c .before .before .before .before .half in
+    let if1 = c .before .before .before .if1 in
+    let rank = c .before .rank in
+    (loop .inv .0, way-bad _ _ _ _ _ _ _ (loop .inv .1) (loop .inv .0) (half .ensures) (if1 .left) (rank .ensures) (c .if3 .taken))
 
 returns-4 : tie.Need-returns-4 Inv-loop μ-loop
-returns-4 c = (c .before .before .before .before .before .before .loop .inv .0, way-here _ _ _ _ _ _ _ (c .before .before .before .before .before .before .loop .inv .1) (c .before .before .before .before .before .before .loop .inv .0) (c .before .before .before .before .before .half .ensures) (c .before .before .before .before .if1 .left) (c .before .before .rank .ensures) (c .if4 .taken))
+returns-4 c =
+    let loop = c .before .before .before .before .before .before .loop in
+    let half = c .before .before .before .before .before .half in
+    let if1 = c .before .before .before .before .if1 in
+    let rank = c .before .before .rank in
+    (loop .inv .0, way-here _ _ _ _ _ _ _ (loop .inv .1) (loop .inv .0) (half .ensures) (if1 .left) (rank .ensures) (c .if4 .taken))
 
 sub-p : tie.Need-sub-p Inv-loop μ-loop
 sub-p c = omega arith
@@ -49,7 +62,12 @@ loop-less : tie.Need-loop-less Inv-loop μ-loop
 loop-less c = omega arith
 
 loop-again : tie.Need-loop-again Inv-loop μ-loop
-loop-again c = (omega arith, way-on _ _ _ _ _ _ _ (c .before .before .before .before .before .before .loop .inv .1) (c .before .before .before .before .before .before .loop .inv .0) (c .before .before .before .before .before .half .ensures) (c .before .before .before .before .if1 .left) (c .before .before .rank .ensures) (c .if4 .left), omega arith)
+loop-again c =
+    let loop = c .before .before .before .before .before .before .loop in
+    let half = c .before .before .before .before .before .half in
+    let if1 = c .before .before .before .before .if1 in
+    let rank = c .before .before .rank in
+    (omega arith, way-on _ _ _ _ _ _ _ (loop .inv .1) (loop .inv .0) (half .ensures) (if1 .left) (rank .ensures) (c .if4 .left), omega arith)
 
 pub find-spec : {M : Type 1} → statement M
 find-spec =

@@ -19,7 +19,11 @@ head-requires : tie.Need-head-requires
 head-requires c κs = search needs
 
 returns-3 : tie.Need-returns-3
-returns-3 c = (c .head .ensures .0, λ T. first-some (now (c .before .before .before .before .before .args .b)) T _ _ _ (omega arith) (c .before .if2 .left) (c .before .before .first-leaf .ensures .1 T) (c .head .ensures .1 T))
+returns-3 c =
+    let args = c .before .before .before .before .before .args in
+    let first-leaf = c .before .before .first-leaf in
+    let if2 = c .before .if2 in
+    (c .head .ensures .0, λ T. first-some (now (args .b)) T _ _ _ (omega arith) (if2 .left) (first-leaf .ensures .1 T) (c .head .ensures .1 T))
 
 pub first-spec : {M : Type 1} → statement M
 first-spec = tie.close (tie.spec returns first-leaf-requires returns-2 head-requires returns-3)

@@ -56,10 +56,18 @@ add-result : tie.Need-add-result Inv-loop μ-loop
 add-result c = omega (arith, c .before .before .first-child .ensures .within, c .first-child2 .ensures .within)
 
 returns : tie.Need-returns Inv-loop μ-loop
-returns c = (
-  omega (arith, c .before .before .first-child .ensures .some (c .before .before .before .if1 .taken), c .first-child2 .ensures .within),
-  λ T. pass-stop _ T _ _ _ (c .before .before .before .before .before .before .before .before .pre) (c .before .before .before .before .before .loop-test .taken) (c .before .before .before .before .before .before .loop .inv T) (c .before .before .before .before .half .ensures) _ _ _ (c .before .before .before .if1 .taken) (c .before .before .first-child .ensures) (c .before .half2 .ensures) (c .first-child2 .ensures),
-)
+returns c =
+    let pre = c .before .before .before .before .before .before .before .before .pre in
+    let loop = c .before .before .before .before .before .before .loop in
+    let loop-test = c .before .before .before .before .before .loop-test in
+    let half = c .before .before .before .before .half in
+    let if1 = c .before .before .before .if1 in
+    let first-child = c .before .before .first-child in
+    let half2 = c .before .half2 in (
+      omega (arith, first-child .ensures .some (if1 .taken), c .first-child2 .ensures .within),
+      λ T. pass-stop _ T _ _ _ (pre) (loop-test .taken) (loop .inv T) (half .ensures) _ _ _ (if1 .taken) (first-child .ensures) (half2 .ensures)
+          (c .first-child2 .ensures),
+    )
 
 add-i : tie.Need-add-i Inv-loop μ-loop
 add-i c = omega arith
@@ -68,7 +76,12 @@ loop-less : tie.Need-loop-less Inv-loop μ-loop
 loop-less c = omega arith
 
 loop-again : tie.Need-loop-again Inv-loop μ-loop
-loop-again c = λ T. pass-on _ T _ _ _ (c .before .before .before .before .before .pre) (c .before .before .loop-test .taken) (c .before .before .before .loop .inv T) (c .before .half .ensures) (c .if1 .left)
+loop-again c =
+    let pre = c .before .before .before .before .before .pre in
+    let loop = c .before .before .before .loop in
+    let loop-test = c .before .before .loop-test in
+    let half = c .before .half in
+    λ T. pass-on _ T _ _ _ (pre) (loop-test .taken) (loop .inv T) (half .ensures) (c .if1 .left)
 
 returns-2 : tie.Need-returns-2 Inv-loop μ-loop
 returns-2 c = (omega arith, λ T. pass-end _ _ _ (c .loop-test .left) (c .before .loop .inv T))

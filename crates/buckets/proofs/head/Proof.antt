@@ -16,7 +16,11 @@ cast-h : tie.Need-cast-h
 cast-h c = search needs
 
 returns : tie.Need-returns
-returns c = (omega arith, λ T. absurd (head-within (now (c .before .before .before .args .b)) T _ _ (c .before .before .before .pre) (c .before .half .ensures) (c .if1 .taken)))
+returns c =
+    let args = c .before .before .before .args in
+    let pre = c .before .before .before .pre in
+    let half = c .before .half in
+    (omega arith, λ T. absurd (head-within (now (args .b)) T _ _ (pre) (half .ensures) (c .if1 .taken)))
 
 returns-2 : tie.Need-returns-2
 returns-2 c = (omega arith, λ T. head-of (now (c .before .before .before .args .b)) T _ _ (c .before .before .before .pre) (c .before .half .ensures))

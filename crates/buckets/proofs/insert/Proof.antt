@@ -55,12 +55,24 @@ same-length : tie.Need-same-length
 same-length c = search needs
 
 returns : tie.Need-returns
-returns c = let K = subst (λ (m : ℕ). Joined (c .before .before .before .before .before .before .before .before .before .before .before .before .before .before .before .before .before .before .before .before .before .before .find .result) m (c .before .before .before .before .before .before .before .before .before .before .join .last .0) (c .before .before .before .before .before .before .join2 .last .0)) (add-one (c .before .before .before .before .before .before .before .before .before .before .before .before .before .before .before .before .before .before .before .before .before .before .before .before .before .args .s)) (c .before .before .before .before .before .before .join2 .ensures) in (
-  put-kept _ _ _ _ _ _ _ _ _ _ _ (c .before .before .before .before .before .before .before .before .before .before .before .before .before .before .before .before .before .before .before .before .before .before .before .before .before .pre .0) (c .before .before .before .before .before .before .before .before .before .before .before .before .before .before .before .before .before .before .set-word .ensures) (c .before .before .before .before .before .before .before .before .before .before .before .before .before .before .set-half .ensures) (c .before .before .before .before .before .before .before .before .before .before .join .ensures) K (c .before .before .refresh .ensures),
-  λ T e.
-      put-in _ _ _ _ _ _ _ _ _ _ _ (c .before .before .before .before .before .before .before .before .before .before .before .before .before .before .before .before .before .before .before .before .before .before .before .before .before .pre .0) (c .before .before .before .before .before .before .before .before .before .before .before .before .before .before .before .before .before .before .set-word .ensures) (c .before .before .before .before .before .before .before .before .before .before .before .before .before .before .set-half .ensures) (c .before .before .before .before .before .before .before .before .before .before .join .ensures) K (c .before .before .refresh .ensures)
-      T e (c .before .before .before .before .before .before .before .before .before .before .before .before .before .before .before .before .before .before .before .before .before .before .before .before .before .pre .1) (c .before .before .before .before .before .before .before .before .before .before .before .before .before .before .before .before .before .before .before .before .before .before .before .before .before .pre .2) (c .before .before .before .before .before .before .before .before .before .before .before .before .before .before .before .before .before .before .before .before .before .before .before .before .before .pre .3) (c .before .before .before .before .before .before .before .before .before .before .before .before .before .before .before .before .before .before .before .before .before .before .before .before .before .pre .4) (c .before .before .before .before .before .before .before .before .before .before .before .before .before .before .before .before .before .before .before .before .before .before .find .ensures .0) (c .before .before .before .before .before .before .before .before .before .before .before .before .before .before .before .before .before .before .before .before .before .before .find .ensures .1 (chained T)) (c .before .before .before .before .before .before .before .before .before .before .before .before .before .before .before .before .before .before .before .before .half .ensures),
-)
+returns c =
+    let back10 = c .before .before .before .before .before .before .before .before .before .before in
+    let back20 = back10 .before .before .before .before .before .before .before .before .before .before in
+    let args = back20 .before .before .before .before .before .args in
+    let pre = back20 .before .before .before .before .before .pre in
+    let find = back20 .before .before .find in
+    let half = back20 .half in
+    let set-word = back10 .before .before .before .before .before .before .before .before .set-word in
+    let set-half = back10 .before .before .before .before .set-half in
+    let join = back10 .join in
+    let join2 = c .before .before .before .before .before .before .join2 in
+    let refresh = c .before .before .refresh in
+    let K = subst (λ (m : ℕ). Joined (find .result) m (join .last .0) (join2 .last .0)) (add-one (args .s)) (join2 .ensures) in (
+      put-kept _ _ _ _ _ _ _ _ _ _ _ (pre .0) (set-word .ensures) (set-half .ensures) (join .ensures) K (refresh .ensures),
+      λ T e.
+          put-in _ _ _ _ _ _ _ _ _ _ _ (pre .0) (set-word .ensures) (set-half .ensures) (join .ensures) K (refresh .ensures)
+          T e (pre .1) (pre .2) (pre .3) (pre .4) (find .ensures .0) (find .ensures .1 (chained T)) (half .ensures),
+    )
 
 pub insert-spec : {M : Type 1} → statement M
 insert-spec =

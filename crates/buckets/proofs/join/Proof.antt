@@ -27,7 +27,12 @@ same-length : tie.Need-same-length
 same-length c = search needs
 
 returns-3 : tie.Need-returns-3
-returns-3 c = join-two _ _ _ _ _ (c .before .before .before .before .before .before .before .before .before .if1 .left) (c .before .before .before .before .before .before .before .before .if2 .left) (c .before .before .before .before .before .before .set-half .ensures) (c .before .before .set-half2 .ensures)
+returns-3 c =
+    let if1 = c .before .before .before .before .before .before .before .before .before .if1 in
+    let if2 = c .before .before .before .before .before .before .before .before .if2 in
+    let set-half = c .before .before .before .before .before .before .set-half in
+    let set-half2 = c .before .before .set-half2 in
+    join-two _ _ _ _ _ (if1 .left) (if2 .left) (set-half .ensures) (set-half2 .ensures)
 
 pub join-spec : {M : Type 1} → statement M
 join-spec =

@@ -41,10 +41,14 @@ add-result : tie.Need-add-result Inv-loop μ-loop
 add-result c = omega arith
 
 returns-2 : tie.Need-returns-2 Inv-loop μ-loop
-returns-2 c = (
-  (omega arith, λ l. omega (arith, c .before .first-from .ensures .from (c .if2 .taken))),
-  λ T. found _ T _ _ _ _ (c .before .before .before .loop-test .taken) (c .before .before .before .before .loop .inv .1 T) (c .before .before .half .ensures) (c .before .first-from .ensures) (c .if2 .taken),
-)
+returns-2 c =
+    let loop = c .before .before .before .before .loop in
+    let loop-test = c .before .before .before .loop-test in
+    let half = c .before .before .half in
+    let first-from = c .before .first-from in (
+      (omega arith, λ l. omega (arith, first-from .ensures .from (c .if2 .taken))),
+      λ T. found _ T _ _ _ _ (loop-test .taken) (loop .inv .1 T) (half .ensures) (first-from .ensures) (c .if2 .taken),
+    )
 
 mul-s : tie.Need-mul-s Inv-loop μ-loop
 mul-s c = omega arith
@@ -56,7 +60,12 @@ loop-less : tie.Need-loop-less Inv-loop μ-loop
 loop-less c = omega arith
 
 loop-again : tie.Need-loop-again Inv-loop μ-loop
-loop-again c = (omega arith, λ T. none-on _ T _ _ _ _ (c .before .before .before .loop-test .taken) (c .before .before .before .before .loop .inv .1 T) (c .before .before .half .ensures) (c .before .first-from .ensures) (c .if2 .left))
+loop-again c =
+    let loop = c .before .before .before .before .loop in
+    let loop-test = c .before .before .before .loop-test in
+    let half = c .before .before .half in
+    let first-from = c .before .first-from in
+    (omega arith, λ T. none-on _ T _ _ _ _ (loop-test .taken) (loop .inv .1 T) (half .ensures) (first-from .ensures) (c .if2 .left))
 
 returns-3 : tie.Need-returns-3 Inv-loop μ-loop
 returns-3 c = ((omega arith, λ l. absurd (omega arith)), λ T. none-end _ _ _ (c .loop-test .left) (c .before .loop .inv .1 T))

@@ -34,17 +34,25 @@ same-length : tie.Need-same-length
 same-length c = search needs
 
 returns-5 : tie.Need-returns-5
-returns-5 c = (
-  kept-on (c .before .before .before .before .before .before .before .take .ensures .0) (c .before .before .insert .ensures .0),
-  (
-    λ h. absurd (put-nothing _ _ (c .before .before .before .before .before .before .before .before .before .before .before .before .if1 .left) (c .before .before .before .before .before .before .before .before .before .before .before .if2 .left) (c .before .before .before .before .before .before .before .before .before .before .if3 .left) h),
-    λ T l d m.
-        let G = c .before .before .before .before .before .before .before .take .ensures .1 .1 T l in
-        put-after G
-        (subst (λ (k : ℕ). Placed (c .before .before .before .before .before .before .before .before .before .before .before .before .before .before .args .s) (c .before .before .before .before .before .before .before .before .before .before .before .before .before .before .args .due) k (c .before .before .before .before .before .before .before .take .last .0) (c .before .before .insert .last .0)) (c .before .before .before .bucket .ensures .0)
-        (c .before .before .insert .ensures .1 (G .changed .table) (G .due-is))),
-  ),
-)
+returns-5 c =
+    let back10 = c .before .before .before .before .before .before .before .before .before .before in
+    let args = back10 .before .before .before .before .args in
+    let if1 = back10 .before .before .if1 in
+    let if2 = back10 .before .if2 in
+    let if3 = back10 .if3 in
+    let take = c .before .before .before .before .before .before .before .take in
+    let bucket = c .before .before .before .bucket in
+    let insert = c .before .before .insert in (
+      kept-on (take .ensures .0) (insert .ensures .0),
+      (
+        λ h. absurd (put-nothing _ _ (if1 .left) (if2 .left) (if3 .left) h),
+        λ T l d m.
+            let G = take .ensures .1 .1 T l in
+            put-after G
+            (subst (λ (k : ℕ). Placed (args .s) (args .due) k (take .last .0) (insert .last .0)) (bucket .ensures .0)
+            (insert .ensures .1 (G .changed .table) (G .due-is))),
+      ),
+    )
 
 pub put-spec : {M : Type 1} → statement M
 put-spec =

@@ -24,7 +24,11 @@ add-result : tie.Need-add-result
 add-result c = search needs
 
 returns-2 : tie.Need-returns-2
-returns-2 c = λ h. ap (λ (d : ℕ). d * 256 + c .before .before .before .args .s) (c .before .word .ensures) ∙ sym (rank-station (dueOf (now (c .before .before .before .args .b))) (c .before .before .before .args .s) (c .before .before .before .pre))
+returns-2 c =
+    let args = c .before .before .before .args in
+    let pre = c .before .before .before .pre in
+    let word = c .before .word in
+    λ h. ap (λ (d : ℕ). d * 256 + args .s) (word .ensures) ∙ sym (rank-station (dueOf (now (args .b))) (args .s) (pre))
 
 pub rank-spec : {M : Type 1} → statement M
 rank-spec = tie.close (tie.spec add-word word-requires returns mul-result add-result returns-2)

@@ -54,7 +54,18 @@ same-length : tie.Need-same-length
 same-length c = search needs
 
 returns-2 : tie.Need-returns-2
-returns-2 c = refresh-done _ _ _ _ _ _ (c .before .before .before .before .before .before .before .before .before .before .before .before .before .before .before .before .if1 .left) (c .before .before .before .before .before .before .before .before .before .set-half .ensures) (c .before .before .set-half2 .ensures) (rw (← c .before .before .before .before .before .before .before .before .before .before .before .before .before .before .half .ensures, ← c .before .before .before .before .before .before .before .before .before .before .before .before .half2 .ensures) (c .before .before .before .before .before .before .before .before .before .before .before .with-child .ensures .0 (omega arith))) (rw (← c .before .before .before .before .before .half3 .ensures) (c .before .before .before .before .with-child2 .ensures .0 (omega arith)))
+returns-2 c =
+    let back10 = c .before .before .before .before .before .before .before .before .before .before in
+    let if1 = back10 .before .before .before .before .before .before .if1 in
+    let half = back10 .before .before .before .before .half in
+    let half2 = back10 .before .before .half2 in
+    let with-child = back10 .before .with-child in
+    let set-half = c .before .before .before .before .before .before .before .before .before .set-half in
+    let half3 = c .before .before .before .before .before .half3 in
+    let with-child2 = c .before .before .before .before .with-child2 in
+    let set-half2 = c .before .before .set-half2 in
+    refresh-done _ _ _ _ _ _ (if1 .left) (set-half .ensures) (set-half2 .ensures)
+    (rw (← half .ensures, ← half2 .ensures) (with-child .ensures .0 (omega arith))) (rw (← half3 .ensures) (with-child2 .ensures .0 (omega arith)))
 
 pub refresh-spec : {M : Type 1} → statement M
 refresh-spec =

@@ -31,7 +31,11 @@ same-length-2 : tie.Need-same-length-2
 same-length-2 c = search needs
 
 returns-4 : tie.Need-returns-4
-returns-4 c = (c .before .before .unlink .ensures .0, (λ h. absurd (omega arith), λ T l. c .before .before .unlink .ensures .1 T (λ z. c .before .before .before .before .if3 .left (c .before .before .before .before .before .word .ensures ∙ z))))
+returns-4 c =
+    let word = c .before .before .before .before .before .word in
+    let if3 = c .before .before .before .before .if3 in
+    let unlink = c .before .before .unlink in
+    (unlink .ensures .0, (λ h. absurd (omega arith), λ T l. unlink .ensures .1 T (λ z. if3 .left (word .ensures ∙ z))))
 
 pub take-spec : {M : Type 1} → statement M
 take-spec =

@@ -41,10 +41,18 @@ same-length : tie.Need-same-length
 same-length c = search needs
 
 returns : tie.Need-returns
-returns c = (
-  take-kept _ 0 _ _ _ _ _ _ _ (c .before .before .before .before .before .before .before .before .before .before .set-word .ensures) (c .before .before .before .before .before .before .join .ensures) (c .before .before .refresh .ensures),
-  λ T r. taken-out _ _ _ _ T _ _ _ _ (c .before .before .before .before .before .before .before .before .before .before .before .before .before .before .before .before .before .before .before .pre) r (c .before .before .before .before .before .before .before .before .before .before .before .before .before .before .before .before .half .ensures) (c .before .before .before .before .before .before .before .before .before .before .before .before .before .before .half2 .ensures) (c .before .before .before .before .before .before .before .before .before .before .before .before .half3 .ensures) (c .before .before .before .before .before .before .before .before .before .before .set-word .ensures) (c .before .before .before .before .before .before .join .ensures) (c .before .before .refresh .ensures),
-)
+returns c =
+    let back10 = c .before .before .before .before .before .before .before .before .before .before in
+    let pre = back10 .before .before .before .before .before .before .before .before .before .pre in
+    let half = back10 .before .before .before .before .before .before .half in
+    let half2 = back10 .before .before .before .before .half2 in
+    let half3 = back10 .before .before .half3 in
+    let set-word = back10 .set-word in
+    let join = c .before .before .before .before .before .before .join in
+    let refresh = c .before .before .refresh in (
+      take-kept _ 0 _ _ _ _ _ _ _ (set-word .ensures) (join .ensures) (refresh .ensures),
+      λ T r. taken-out _ _ _ _ T _ _ _ _ (pre) r (half .ensures) (half2 .ensures) (half3 .ensures) (set-word .ensures) (join .ensures) (refresh .ensures),
+    )
 
 pub unlink-spec : {M : Type 1} → statement M
 unlink-spec =

@@ -32,7 +32,11 @@ loop-less : tie.Need-loop-less Inv-loop μ-loop
 loop-less c = omega arith
 
 loop-again : tie.Need-loop-again Inv-loop μ-loop
-loop-again c = c .before .before .raised .kept .0 ∙ c .before .before .before .before .before .before .before .call .kept .0 ∙ c .before .before .before .before .before .before .before .before .before .before .loop .inv
+loop-again c =
+    let loop = c .before .before .before .before .before .before .before .before .before .before .loop in
+    let call = c .before .before .before .before .before .before .before .call in
+    let raised = c .before .before .raised in
+    raised .kept .0 ∙ call .kept .0 ∙ loop .inv
 
 same-length : tie.Need-same-length Inv-loop μ-loop
 same-length c = c .before .loop .inv

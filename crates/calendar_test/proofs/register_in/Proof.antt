@@ -30,15 +30,19 @@ same-length c = search needs
 
 returns : tie.Need-returns
 returns c =
-    let a = c .before .before .before .before .before .args in
-    let xs = now (c .before .before .before .before .before .args .b) in
-    let ys = c .before .before .register .last .0 in
+    let args = c .before .before .before .before .before .args in
+    let pre = c .before .before .before .before .before .pre in
+    let register = c .before .before .register in
+    let a = args in
+    let xs = now (args .b) in
+    let ys = register .last .0 in
     let k = a .to - a .from in
-    let size = c .before .before .register .kept .0 ∙ mid-len (a .from) (a .to) xs (c .before .before .before .before .before .pre .1) in
-    let before = length-take-le (a .from) xs (omega (arith, c .before .before .before .before .before .pre)) in
+    let size = register .kept .0 ∙ mid-len (a .from) (a .to) xs (pre .1) in
+    let before = length-take-le (a .from) xs (omega (arith, pre)) in
     let part = ap (take k) (drop-at (take (a .from) xs) (ys ++ postOf (a .from) k xs) (a .from) before) ∙ take-at ys (postOf (a .from) k xs) k size in (
-      subst (Obeys (λ (q : Calendar). registerChecks q (a .station) (a .time)) (λ (q : Calendar). registered q (a .station) (a .time)) (take k (drop (a .from) xs)) (c .before .before .register .result)) (sym part) (c .before .before .register .ensures),
-      (take-put (a .from) k xs ys (omega (arith, c .before .before .before .before .before .pre)), drop-put (a .from) (a .to) xs ys (c .before .before .before .before .before .pre .0) (c .before .before .before .before .before .pre .1) size),
+      subst (Obeys (λ (q : Calendar). registerChecks q (a .station) (a .time)) (λ (q : Calendar). registered q (a .station) (a .time))
+          (take k (drop (a .from) xs)) (register .result)) (sym part) (register .ensures),
+      (take-put (a .from) k xs ys (omega (arith, pre)), drop-put (a .from) (a .to) xs ys (pre .0) (pre .1) size),
     )
 
 pub register-in-spec : {M : Type 1} → statement M

@@ -23,10 +23,16 @@ number-requires : tie.Need-number-requires
 number-requires c κs = search needs
 
 returns : tie.Need-returns
-returns c = (sym (ap leastCode (c .before .l .given .1)), sym (ap (λ (x : Least). found x (now (c .before .before .before .args .at))) (c .before .l .given .1)))
+returns c =
+    let args = c .before .before .before .args in
+    let l = c .before .l in
+    (sym (ap leastCode (l .given .1)), sym (ap (λ (x : Least). found x (now (args .at))) (l .given .1)))
 
 returns-2 : tie.Need-returns-2
-returns-2 c = (c .number .ensures ∙ sym (ap leastCode (c .before .before .l2 .given .1)), sym (ap (λ (x : Least). found x (now (c .before .before .before .before .args .at))) (c .before .before .l2 .given .1)))
+returns-2 c =
+    let args = c .before .before .before .before .args in
+    let l2 = c .before .before .l2 in
+    (c .number .ensures ∙ sym (ap leastCode (l2 .given .1)), sym (ap (λ (x : Least). found x (now (args .at))) (l2 .given .1)))
 
 pub tell-spec : {M : Type 1} → statement M
 tell-spec =
