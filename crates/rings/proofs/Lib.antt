@@ -1,0 +1,15 @@
+pub mod Operations
+pub mod Frames
+pub mod Stores
+pub mod Confined
+pub mod Counts
+pub mod Sums
+pub mod Runs
+pub mod Mirror
+pub mod Places
+pub mod Links
+pub mod Changes
+pub mod RingLaws
+pub mod Families
+pub mod Steps
+pub mod Walks
