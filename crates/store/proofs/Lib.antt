@@ -1,0 +1,6 @@
+pub mod Run
+pub mod RecordLaws
+pub mod Fits
+pub mod Entry
+pub mod Cells
+pub mod Rows
