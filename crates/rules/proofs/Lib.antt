@@ -30,3 +30,7 @@ pub mod Room
 pub mod Whole
 pub mod Compute
 pub mod Answered
+pub mod Unrun
+pub mod Registered
+pub mod Elsewhere
+pub mod Tests
