@@ -1,0 +1,116 @@
+-- From what the calls of a function ensure, in their order, to the change that it makes.
+use mathlib.Core.Path.{_≡_, _∙_}
+use mathlib.Core.Logic.{_≢_}
+use mathlib.Core.Bool.{Bool, true}
+use mathlib.Core.List.{List}
+use Prim.Native.Nat.{ℕ, _+_, _*_, _<_}
+use native.Mathlib.Omega.{arith}
+use borrow.Author.Tests.{eq-eqb, ne-eqb}
+use Rattle.words.specs.Le.{storeAt}
+use Rattle.line.specs.declared.Event.{Event}
+use Rattle.line.specs.declared.State.{State}
+use Rattle.line.specs.Event.{before}
+use Rattle.rules.specs.Held.{unrun, ran}
+use Rattle.rings.specs.Table.{nextOf, prevOf, linkAfter, unlinked}
+use Rattle.rings.specs.Walk.{steps}
+use Rattle.store.specs.Layout.{slotRow}
+use Rattle.store.specs.Records.{eventAt, putEvent, putState}
+use Rattle.index.specs.Shape.{linksAt, logAt, nodesOf, slotOf}
+use Rattle.index.specs.Stands.{cell, stopAt, filed, freed, Puts, Marks, Unmarks, Drops, Releases}
+use Rattle.index.proofs.Slots.{held-event}
+use Rattle.index.proofs.PutLaws.{putBytes, first-free, put-stands}
+use Rattle.index.proofs.MarkLaws.{markBytes, node-of, mark-stands}
+use Rattle.index.proofs.UnmarkLaws.{unmarkBytes, unmark-stands}
+use Rattle.index.proofs.FreeLaws.{drop-stands, release-stands}
+use Rattle.index.proofs.Confines.{Inside, put-inside, mark-inside, unmark-inside, freed-inside, released-inside}
+
+-- where the status stands
+status : (n i : ℕ) → slotRow n i + 56 + 2 * 2 ≡ slotRow n i + 60
+status n i = omega arith
+
+-- ---- the parts
+
+pub stops-at : (xs : List ℕ) (n s : ℕ) (e : Event) {i : ℕ} → i ≡ s → true ≡ stopAt xs n s e i
+unfolding stopAt
+stops-at xs n s e {i} h = rw (eq-eqb i s h)
+
+pub stops-by : (xs : List ℕ) (n s : ℕ) (e : Event) {i j : ℕ} {y : Event} {r : Bool} → i ≢ s → j ≡ slotOf n i → y ≡ eventAt (slotRow n j) xs
+    → r ≡ before y e → r ≡ stopAt xs n s e i
+unfolding stopAt
+stops-by xs n s e {i} d ej ey er = rw (ne-eqb i s d, er, ey, ej)
+
+pub looked-up : (xs : List ℕ) (x : ℕ) (n c : ℕ) {o r : ℕ} → o ≡ linksAt n c → r ≡ nextOf xs o x → r ≡ nextOf xs (linksAt n c) x
+looked-up xs x n c eo er = rw (← eo) er
+
+pub looked-back : (xs : List ℕ) (x : ℕ) (n c : ℕ) {o r : ℕ} → o ≡ linksAt n c → r ≡ prevOf xs o x → r ≡ prevOf xs (linksAt n c) x
+looked-back xs x n c eo er = rw (← eo) er
+
+pub looked-log : (xs : List ℕ) (x : ℕ) (n c : ℕ) {o r : ℕ} → o ≡ logAt n c → r ≡ nextOf xs o x → r ≡ nextOf xs (logAt n c) x
+looked-log xs x n c eo er = rw (← eo) er
+
+pub filed-made : (xs : List ℕ) (n o k s : ℕ) (e : Event) (x : ℕ) {p a : ℕ} {ys : List ℕ} → p ≡ prevOf xs o s
+    → a ≡ steps (prevOf xs o) (stopAt xs n s e) k p → ys ≡ linkAfter xs o k a x → ys ≡ filed xs n o k s e x
+unfolding filed
+filed-made xs n o k s e x ep ea e₁ = rw (e₁, ea, ep)
+
+pub freed-made : (xs : List ℕ) (n o k x : ℕ) {i : ℕ} {t₁ t₂ ys : List ℕ} → i ≡ slotOf n x → t₁ ≡ storeAt 2 (slotRow n i + 56 + 2 * 2) 0 xs
+    → t₂ ≡ unlinked t₁ o k x → ys ≡ linkAfter t₂ o k (2 * n) x → ys ≡ freed xs n o k x
+unfolding freed
+freed-made xs n o k x {i} ei e₁ e₂ e₃ = rw (e₃, e₂, e₁, status n i, ei)
+
+-- ---- the changes
+
+module _ (n c : ℕ) (xs : List ℕ) where
+  pub put-made : (e : Event) {x o k i j : ℕ} {t₁ t₂ t₃ ys : List ℕ} → o ≡ linksAt n c → k ≡ nodesOf n c → x ≡ nextOf xs o (2 * n) → 2 * n < x → x < k
+      → t₁ ≡ unlinked xs o k x → i ≡ slotOf n x → t₂ ≡ putEvent (slotRow n i) e t₁ → j ≡ slotOf n x → t₃ ≡ storeAt 2 (slotRow n j + 56 + 2 * 2) 1 t₂
+      → ys ≡ filed t₃ n o k (e .target) e x → Inside n c xs ys × Puts n c xs e x ys
+  put-made e {x} {o} {k} {i} {j} {t₁} {t₂} {t₃} {ys} eo ek ex lo hi e₁ ei e₂ ej e₃ e₄ = (
+    rw made (put-inside n c xs x lo (rw ek at hi) e),
+    (λ A B z fs S fit l a b.
+        let q : x ≡ z = ex ∙ rw (← eo) at (first-free S .0) in
+        let E : ys ≡ putBytes n c xs e z = rw (← q) made in
+        (q, rw E (put-stands n c xs e z A B fs S fit l a b))),
+  )
+    where
+      made : ys ≡ putBytes n c xs e x
+      made = rw (e₄, e₃, e₂, e₁, status n j, ei, ej, ek, eo)
+
+  module _ (x : ℕ) where
+    pub mark-made : (v : State) {o k l i a : ℕ} {e : Event} {t₁ t₂ t₃ t₄ ys : List ℕ} → o ≡ linksAt n c → k ≡ nodesOf n c → x < k → 2 * n < x
+        → i ≡ slotOf n x → e ≡ eventAt (slotRow n i) xs → t₁ ≡ putState (slotRow n i + 24) v xs → t₂ ≡ storeAt 2 (slotRow n i + 56 + 2 * 2) 2 t₁
+        → t₃ ≡ unlinked t₂ o k x → a ≡ prevOf t₃ o (n + e .target) → t₄ ≡ linkAfter t₃ o k a x → l ≡ logAt n c → ys ≡ filed t₄ n l k 0 e x
+        → Inside n c xs ys × Marks n c xs x v ys
+    mark-made v {o} {k} {l} {i} {a} {e} {t₁} {t₂} {t₃} {t₄} {ys} eo ek hi lo ei ee e₁ e₂ e₃ ea e₄ el e₅ = (
+      rw made (mark-inside n c xs x lo (rw ek at hi) e v),
+      (λ A B z free S fit first last.
+          let q : e ≡ z = (ee ∙ rw ei) ∙ held-event n xs x (unrun z) (node-of A (cell x (unrun z)) B S .0) in
+          let E : ys ≡ markBytes n c xs x z v = rw (← q) made in
+          rw E (mark-stands n c xs x z v A B free S fit first last)),
+    )
+      where
+        made : ys ≡ markBytes n c xs x e v
+        made = rw (e₅, e₄, ea, e₃, e₂, e₁, status n i, ei, el, ek, eo)
+
+    pub unmark-made : {o k l i : ℕ} {e : Event} {t₁ t₂ t₃ ys : List ℕ} → o ≡ linksAt n c → k ≡ nodesOf n c → x < k → 2 * n < x
+        → i ≡ slotOf n x → e ≡ eventAt (slotRow n i) xs → t₁ ≡ storeAt 2 (slotRow n i + 56 + 2 * 2) 1 xs → l ≡ logAt n c → t₂ ≡ unlinked t₁ l k x
+        → t₃ ≡ unlinked t₂ o k x → ys ≡ linkAfter t₃ o k (e .target) x → Inside n c xs ys × Unmarks n c xs x ys
+    unmark-made {o} {k} {l} {i} {e} {t₁} {t₂} {t₃} {ys} eo ek hi lo ei ee e₁ el e₂ e₃ e₄ = (
+      rw made (unmark-inside n c xs x lo (rw ek at hi) e),
+      (λ A B z b free S first last.
+          let q : e ≡ z = (ee ∙ rw ei) ∙ held-event n xs x (ran z b) (node-of A (cell x (ran z b)) B S .0) in
+          let E : ys ≡ unmarkBytes n c xs x z = rw (← q) made in
+          rw E (unmark-stands n c xs x z A B b free S first last)),
+    )
+      where
+        made : ys ≡ unmarkBytes n c xs x e
+        made = rw (e₄, e₃, e₂, e₁, status n i, ei, el, ek, eo)
+
+    pub drop-made : {o k : ℕ} {ys : List ℕ} → k ≡ nodesOf n c → x < k → 2 * n < x → o ≡ linksAt n c → ys ≡ freed xs n o k x
+        → Inside n c xs ys × Drops n c xs x ys
+    drop-made ek hi lo eo e₁ =
+        rw (e₁, eo, ek) (freed-inside n c xs x lo (rw ek at hi), (λ A B e free S. drop-stands n c xs x A B e free S))
+
+    pub release-made : {o k l : ℕ} {t₁ ys : List ℕ} → k ≡ nodesOf n c → x < k → 2 * n < x → l ≡ logAt n c → t₁ ≡ unlinked xs l k x → o ≡ linksAt n c
+        → ys ≡ freed t₁ n o k x → Inside n c xs ys × Releases n c xs x ys
+    release-made ek hi lo el e₁ eo e₂ =
+        rw (e₂, e₁, el, eo, ek) (released-inside n c xs x lo (rw ek at hi), (λ A B e b free S. release-stands n c xs x A B e b free S))

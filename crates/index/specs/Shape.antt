@@ -1,0 +1,27 @@
+-- Where the index stands in a buffer of n stations and c slots, and which node is what.
+use mathlib.Core.Bool.{Bool, _&&_}
+use Prim.Native.Nat.{ℕ, _+_, _-_, _*_}
+use lib.Dec.{leb}
+use Rattle.store.specs.Layout.{slotRow}
+
+-- the stations' two sentinels each, that of the free ring, and the slots
+abbrev pub nodesOf : ℕ → ℕ → ℕ
+nodesOf n c = 2 * n + 1 + c
+
+-- the slot of a node
+abbrev pub slotOf : ℕ → ℕ → ℕ
+slotOf n x = x - (2 * n + 1)
+
+-- the links start behind the slots, and the log's behind those
+abbrev pub linksAt : ℕ → ℕ → ℕ
+linksAt n c = slotRow n c
+
+abbrev pub logAt : ℕ → ℕ → ℕ
+logAt n c = linksAt n c + 4 * nodesOf n c
+
+-- the bytes of slots, links and log
+abbrev pub indexBytes : ℕ → ℕ → ℕ
+indexBytes n c = 64 * c + 8 * nodesOf n c
+
+abbrev pub inRange : ℕ → ℕ → Bool
+inRange n c = leb n 256 && leb c 4096
