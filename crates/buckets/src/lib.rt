@@ -10,8 +10,7 @@
 
 ghost use mathlib.Core.Path.{_≡_};
 ghost use mathlib.Core.Logic.{_⊎_};
-ghost use Prim.Native.Nat.{ℕ, _+_, _*_, _%_, _≤_, _<_};
-ghost use lib.ListN.{length};
+ghost use Prim.Native.Nat.{_+_, _*_, _%_, _≤_, _<_};
 ghost use Rattle.buckets.specs.Cells.{wordAt, halfAt, putWord, putHalf};
 ghost use Rattle.buckets.specs.Lists.{rankOf};
 ghost use Rattle.buckets.specs.Table.{dueOf, Table, bucketFor, Kept, Placed, Gone, First, Later, Cleared};

@@ -2,7 +2,6 @@
 // A slice is a pointer and a length there.
 
 ghost use mathlib.Core.Path.{_≡_};
-ghost use Prim.Native.Nat.{ℕ};
 ghost use Rattle.calendar.specs.declared.Answer.{Answer};
 ghost use Rattle.calendar.specs.declared.Least.{Least};
 ghost use Rattle.calendar.specs.Rules.{registerChecks, registered, unregisterChecks, unregistered, advanceChecks, advanced};

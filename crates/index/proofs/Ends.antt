@@ -12,7 +12,7 @@ use Rattle.rings.specs.Ring.{RingIn}
 use Rattle.rings.proofs.Places.{first-of, last-of}
 use Rattle.rings.proofs.Mirror.{last-snoc}
 use Rattle.index.specs.Shape.{linksAt, logAt, nodesOf}
-use Rattle.index.specs.Stands.{Cell, cell, ringOf, isRun, nodesBy, Stands, NoneIn}
+use Rattle.index.specs.Stands.{Cell, cell, ringOf, hasRun, nodesBy, Stands, NoneIn}
 use Rattle.index.proofs.Shapes.{one}
 use Rattle.index.proofs.Contents.{by-in, nodesIn, nodes-none, contents-free}
 use Rattle.index.proofs.Moves.{ring-of, ring-at}
@@ -65,16 +65,16 @@ no-free {n} {c} {xs} {cells} S =
 -- no cell is run
 abbrev pub NoneRun : List Cell → Type 0
 NoneRun [] = Unit {0}
-NoneRun (y ∷ ys) = (isRun (y .held) ≡ false) × NoneRun ys
+NoneRun (y ∷ ys) = (hasRun (y .held) ≡ false) × NoneRun ys
 
-none-run : (A : List Cell) → NoneRun A → nodesBy isRun A ≡ []
+none-run : (A : List Cell) → NoneRun A → nodesBy hasRun A ≡ []
 none-run [] z = refl
 none-run (y ∷ A) z = rw (z .0) (none-run A (z .1))
 
 pub first-logged : {n c : ℕ} {xs : List ℕ} (A B : List Cell) (x : ℕ) (e : Event) (b : State) {free : List ℕ}
     → Stands n c xs (A ++ cell x (ran e b) ∷ B) free → NoneRun A → nextOf xs (logAt n c) 0 ≡ x
 first-logged {n} {c} {xs} A B x e b S z =
-    let R : RingIn xs (logAt n c) (nodesOf n c) 0 (x ∷ nodesBy isRun B) = rw (by-in isRun A (cell x (ran e b)) B refl, none-run A z) at (S .log .ring 0 one) in
+    let R : RingIn xs (logAt n c) (nodesOf n c) 0 (x ∷ nodesBy hasRun B) = rw (by-in hasRun A (cell x (ran e b)) B refl, none-run A z) at (S .log .ring 0 one) in
     first-of R
 
 pub none-logged : {n c : ℕ} {xs : List ℕ} {cells : List Cell} {free : List ℕ} → Stands n c xs cells free → NoneRun cells → nextOf xs (logAt n c) 0 ≡ 0

@@ -14,7 +14,7 @@ use Rattle.rings.proofs.Confined.{insert-frame, unlink-frame}
 use Rattle.rings.proofs.Families.{rings-elsewhere, rings-unlink}
 use Rattle.store.specs.Layout.{slotRow}
 use Rattle.index.specs.Shape.{linksAt, logAt, nodesOf, slotOf}
-use Rattle.index.specs.Stands.{Cell, cell, isRun, nodesBy, contents, statusAt, Stands, freed}
+use Rattle.index.specs.Stands.{Cell, cell, hasRun, nodesBy, contents, statusAt, Stands, freed}
 use Rattle.index.proofs.Shapes.{least, one, only, links-log, slot-links, slot-log, slot-below}
 use Rattle.index.proofs.Contents.{by-append, by-in, by-out}
 use Rattle.index.proofs.Moves.{take-out, out-free, put-free}
@@ -39,7 +39,7 @@ module _ (n c : ℕ) (xs : List ℕ) (x : ℕ) where
   -- from bytes t in which the log has no node x any more
   freed-stands : (t : List ℕ) (A : List Cell) (h : Held) (B : List Cell) (free : List ℕ) → Stands n c xs (A ++ cell x h ∷ B) free
       → Else n c (slotOf n x) xs t → Rings t o k (2 * n + 1) (contents n (A ++ cell x h ∷ B) free)
-      → Rings t l k 1 (λ _. nodesBy isRun (A ++ B)) → Stands n c (freed t n o k x) (A ++ B) (x ∷ free)
+      → Rings t l k 1 (λ _. nodesBy hasRun (A ++ B)) → Stands n c (freed t n o k x) (A ++ B) (x ∷ free)
   unfolding freed
   freed-stands t A h B free S E F L =
       let y : Cell = cell x h in
@@ -78,7 +78,7 @@ module _ (n c : ℕ) (xs : List ℕ) (x : ℕ) where
   pub drop-stands : (A B : List Cell) (e : Event) (free : List ℕ) → Stands n c xs (A ++ cell x (unrun e) ∷ B) free
       → Stands n c (freed xs n o k x) (A ++ B) (x ∷ free)
   drop-stands A B e free S =
-      freed-stands xs A (unrun e) B free S (record { size = refl; loads = λ m j _ _. refl }) (S .rings) (rw (by-out isRun A (cell x (unrun e)) B refl) at (S .log))
+      freed-stands xs A (unrun e) B free S (record { size = refl; loads = λ m j _ _. refl }) (S .rings) (rw (by-out hasRun A (cell x (unrun e)) B refl) at (S .log))
 
   pub release-stands : (A B : List Cell) (e : Event) (b : State) (free : List ℕ) → Stands n c xs (A ++ cell x (ran e b) ∷ B) free
       → Stands n c (freed (unlinked xs l k x) n o k x) (A ++ B) (x ∷ free)
@@ -86,5 +86,5 @@ module _ (n c : ℕ) (xs : List ℕ) (x : ℕ) where
       let y : Cell = cell x (ran e b) in
       freed-stands (unlinked xs l k x) A (ran e b) B free S (else-links n c (slotOf n x) (omega arith) (unlink-frame xs l k x))
       (rings-elsewhere (unlink-frame xs l k x) (inr (links-log n c)) (S .rings))
-      (rings-unlink (S .log) (λ _. nodesBy isRun (A ++ B)) 0 one (nodesBy isRun A) (nodesBy isRun B) x (λ u h d. absurd (only u h d))
-      (by-in isRun A y B refl) (by-append isRun A B))
+      (rings-unlink (S .log) (λ _. nodesBy hasRun (A ++ B)) 0 one (nodesBy hasRun A) (nodesBy hasRun B) x (λ u h d. absurd (only u h d))
+      (by-in hasRun A y B refl) (by-append hasRun A B))

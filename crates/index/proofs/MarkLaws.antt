@@ -17,7 +17,7 @@ use Rattle.rings.proofs.Families.{rings-elsewhere, rings-insert}
 use Rattle.store.specs.Layout.{slotRow}
 use Rattle.store.specs.Records.{putState, StateFits}
 use Rattle.index.specs.Shape.{linksAt, logAt, nodesOf, slotOf}
-use Rattle.index.specs.Stands.{Cell, cell, ringOf, isRun, nodesBy, contents, HeldAt, Stands, NoneIn, filed}
+use Rattle.index.specs.Stands.{Cell, cell, ringOf, hasRun, nodesBy, contents, HeldAt, Stands, NoneIn, filed}
 use Rattle.index.proofs.Shapes.{least, one, only, from-links, links-log, slot-links, slot-log, slot-below, slot-room}
 use Rattle.index.proofs.Contents.{by-append, by-in, by-out, nodesIn, nodes-append, nodes-none}
 use Rattle.index.proofs.Moves.{ring-of, ring-at, take-out, out-free, put-in}
@@ -77,7 +77,7 @@ module _ (n c : ℕ) (xs : List ℕ) (x : ℕ) (e : Event) (v : State) where
       rw (last-of R) (put-in n A z B free (omega (arith, w .2)) out (w .3) F₃) in
       let D = unlink-frame saved₁ o k x in
       let I = insert-frame out₁ o k (prevOf out₁ o (n + s)) x in
-      let L : Rings xs l k 1 (λ _. nodesBy isRun (A ++ B)) = rw (by-out isRun A y B refl) at (S .log) in
+      let L : Rings xs l k 1 (λ _. nodesBy hasRun (A ++ B)) = rw (by-out hasRun A y B refl) at (S .log) in
       let L₄ = rings-elsewhere I (inl (links-log n c)) (rings-elsewhere D (inl (links-log n c)) (rings-elsewhere G (inl (slot-log n c x (w .1) (w .3))) L)) in
       let T = stored-drop n xs A y B (S .stored) in
       let a = others n c x (A ++ B) free F₃ out xs T in
@@ -85,9 +85,9 @@ module _ (n c : ℕ) (xs : List ℕ) (x : ℕ) (e : Event) (v : State) where
       let E₄ : Else n c (slotOf n x) xs in₁ =
       else-on E₂ (else-on (else-links n c (slotOf n x) (least o) D) (else-links n c (slotOf n x) (least o) I)) in
       let P = stored-split n in₁ A B (stored-else n c x (w .1) E₄ (A ++ B) a T) in
-      let Q : RingIn in₁ l k 0 (nodesBy isRun A ++ nodesBy isRun B) = rw (by-append isRun A B) at (L₄ .ring 0 one) in
-      let at = filed-at in₁ n 0 e isRun l k A B x (omega arith) Q (P .0) (P .1) (sorted-before A y B (S .sorted)) (sorted-behind A y B (S .sorted)) in
-      let J : Frame l (4 * k) in₁ markBytes = rw at (insert-frame in₁ l k (lastOf 0 (nodesBy isRun A)) x) in
+      let Q : RingIn in₁ l k 0 (nodesBy hasRun A ++ nodesBy hasRun B) = rw (by-append hasRun A B) at (L₄ .ring 0 one) in
+      let at = filed-at in₁ n 0 e hasRun l k A B x (omega arith) Q (P .0) (P .1) (sorted-before A y B (S .sorted)) (sorted-behind A y B (S .sorted)) in
+      let J : Frame l (4 * k) in₁ markBytes = rw at (insert-frame in₁ l k (lastOf 0 (nodesBy hasRun A)) x) in
       let E₅ = else-on E₄ (else-links n c (slotOf n x) (from-links n c) J) in
       let i = slot-below n c x (w .1) (w .3) in
       let H₂ = ran-stored n x e v xs (slot-room n c x (w .1) (w .3) (S .room)) fit (held-event n xs x (unrun e) (w .0)) in
@@ -102,8 +102,8 @@ module _ (n c : ℕ) (xs : List ℕ) (x : ℕ) (e : Event) (v : State) where
         rings = rings-elsewhere J (inr (links-log n c)) F₄;
         log =
             rw at
-            (rings-insert L₄ (λ _. nodesBy isRun (A ++ z ∷ B)) 0 one (nodesBy isRun A) (nodesBy isRun B) x (λ u h d. absurd (only u h d))
-            (by-append isRun A B) (by-in isRun A z B refl) (omega (arith, none-by n c x isRun (A ++ B) a, hit-ne x 0 (omega (arith, w .1)))) (w .3));
+            (rings-insert L₄ (λ _. nodesBy hasRun (A ++ z ∷ B)) 0 one (nodesBy hasRun A) (nodesBy hasRun B) x (λ u h d. absurd (only u h d))
+            (by-append hasRun A B) (by-in hasRun A z B refl) (omega (arith, none-by n c x hasRun (A ++ B) a, hit-ne x 0 (omega (arith, w .1)))) (w .3));
         stored = stored-insert n markBytes A z B H₅ (w .1) (w .2) (stored-else n c x (w .1) E₅ (A ++ B) a T);
         unused = free-else n c x (w .1) E₅ free (others-free n c x (A ++ B) free F₃ out) (S .unused);
         sorted = sorted-swap A y z B refl (S .sorted);

@@ -23,7 +23,7 @@ use Rattle.rings.proofs.Stores.{room-same}
 use Rattle.rings.proofs.Families.{free-all, rings-none, rings-empty, rings-insert, rings-elsewhere, rings-renamed}
 use Rattle.store.specs.Layout.{slotRow}
 use Rattle.index.specs.Shape.{linksAt, logAt, nodesOf, indexBytes, slotOf, inRange}
-use Rattle.index.specs.Stands.{Cell, isRun, nodesBy, contents, statusAt, Free, Stands}
+use Rattle.index.specs.Stands.{Cell, hasRun, nodesBy, contents, statusAt, Free, Stands}
 use Rattle.index.specs.Opening.{emptied, filled, places, Clears}
 
 -- ---- empty rings

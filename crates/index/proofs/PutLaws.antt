@@ -18,7 +18,7 @@ use Rattle.rings.proofs.Families.{rings-elsewhere}
 use Rattle.store.specs.Layout.{slotRow}
 use Rattle.store.specs.Records.{putEvent, EventFits}
 use Rattle.index.specs.Shape.{linksAt, nodesOf, slotOf}
-use Rattle.index.specs.Stands.{Cell, cell, ringOf, isRun, AllBefore, AllBehind, Stands, filed}
+use Rattle.index.specs.Stands.{Cell, cell, ringOf, hasRun, AllBefore, AllBehind, Stands, filed}
 use Rattle.index.proofs.Shapes.{least, links-log, slot-links, slot-log, slot-below}
 use Rattle.index.proofs.Contents.{by-out, nodesIn, nodes-append, contents-free}
 use Rattle.index.proofs.Moves.{ring-of, put-in, take-free, taken-free}
@@ -80,7 +80,7 @@ module _ (n c : ℕ) (xs : List ℕ) (e : Event) (x : ℕ) where
         room = rw (E₄ .size) (S .room);
         rings = rw at (put-in n A y B fs (omega arith) out (w .2) F₃);
         log =
-            rw (by-out isRun A y B refl)
+            rw (by-out hasRun A y B refl)
             (rings-elsewhere K (inl (links-log n c))
             (rings-elsewhere G (inl (slot-log n c x (w .1) (w .2))) (rings-elsewhere (unlink-frame xs o k x) (inl (links-log n c)) (S .log))));
         stored =

@@ -14,7 +14,7 @@ use Rattle.rings.proofs.Confined.{insert-frame, unlink-frame}
 use Rattle.rings.proofs.Families.{rings-elsewhere, rings-unlink}
 use Rattle.store.specs.Layout.{slotRow}
 use Rattle.index.specs.Shape.{linksAt, logAt, nodesOf, slotOf}
-use Rattle.index.specs.Stands.{Cell, cell, isRun, nodesBy, contents, Stands, NoneIn}
+use Rattle.index.specs.Stands.{Cell, cell, hasRun, nodesBy, contents, Stands, NoneIn}
 use Rattle.index.proofs.Shapes.{least, one, only, from-links, links-log, slot-links, slot-log, slot-below}
 use Rattle.index.proofs.Contents.{by-append, by-in, by-out, nodes-none}
 use Rattle.index.proofs.Moves.{take-out, out-free, put-in}
@@ -65,8 +65,8 @@ module _ (n c : ℕ) (xs : List ℕ) (x : ℕ) (e : Event) where
       let F₄ : Rings unmarkBytes o k (2 * n + 1) (contents n (A ++ z ∷ B) free) =
       rw (nodes-none n s A first) at (put-in n A z B free (omega (arith, w .2)) out (w .3) F₃) in
       let L₂ =
-      rings-unlink (rings-elsewhere G (inl (slot-log n c x (w .1) (w .3))) (S .log)) (λ _. nodesBy isRun (A ++ z ∷ B)) 0 one (nodesBy isRun A)
-      (nodesBy isRun B) x (λ u h d. absurd (only u h d)) (by-in isRun A y B refl) (by-out isRun A z B refl ∙ by-append isRun A B) in
+      rings-unlink (rings-elsewhere G (inl (slot-log n c x (w .1) (w .3))) (S .log)) (λ _. nodesBy hasRun (A ++ z ∷ B)) 0 one (nodesBy hasRun A)
+      (nodesBy hasRun B) x (λ u h d. absurd (only u h d)) (by-in hasRun A y B refl) (by-out hasRun A z B refl ∙ by-append hasRun A B) in
       let T = stored-drop n xs A y B (S .stored) in
       let a = others n c x (A ++ B) free F₃ out xs T in
       let q = slotOf n x in

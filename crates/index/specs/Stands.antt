@@ -32,9 +32,9 @@ abbrev pub ringOf : ℕ → Held → ℕ
 ringOf n (unrun x) = x .target
 ringOf n (ran x b) = n + x .target
 
-abbrev pub isRun : Held → Bool
-isRun (unrun x) = false
-isRun (ran x b) = true
+abbrev pub hasRun : Held → Bool
+hasRun (unrun x) = false
+hasRun (ran x b) = true
 
 -- the nodes of the cells for which t holds, in order
 abbrev pub nodesBy : (Held → Bool) → List Cell → List ℕ
@@ -82,7 +82,7 @@ pub record Stands (n c : ℕ) (xs : List ℕ) (cells : List Cell) (free : List �
   pub capacity : c ≤ 4096
   pub room : slotRow n 0 + indexBytes n c ≤ length xs
   pub rings : Rings xs (linksAt n c) (nodesOf n c) (2 * n + 1) (contents n cells free)
-  pub log : Rings xs (logAt n c) (nodesOf n c) 1 (λ _. nodesBy isRun cells)
+  pub log : Rings xs (logAt n c) (nodesOf n c) 1 (λ _. nodesBy hasRun cells)
   pub stored : Stored n xs cells
   pub unused : Free n xs free
   pub sorted : Sorted cells

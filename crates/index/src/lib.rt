@@ -9,7 +9,7 @@
 
 ghost use mathlib.Core.Path.{_≡_};
 ghost use Prim.Native.Nat.{_+_, _-_, _*_, _≤_, _<_};
-ghost use Rattle.rings.specs.Table.{nextOf, prevOf, linkAfter, unlinked, Frame};
+ghost use Rattle.rings.specs.Table.{nextOf, prevOf, Frame};
 ghost use Rattle.rings.specs.Walk.{steps};
 ghost use Rattle.store.specs.Layout.{slotRow};
 ghost use Rattle.index.specs.Shape.{linksAt, logAt, nodesOf, indexBytes, inRange, slotOf};
