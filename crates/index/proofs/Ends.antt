@@ -53,7 +53,7 @@ module _ {n c : ℕ} {xs : List ℕ} (A B : List Cell) (x : ℕ) (e : Event) {fr
     pub last-run : Stands n c xs (A ++ cell x (ran e b) ∷ B) free → NoneIn n (n + e .target) B → prevOf xs (linksAt n c) (n + e .target) ≡ x
     last-run S z = last-in A (cell x (ran e b)) B S z
 
--- ---- the free ring, for PutLaws' first-free where there is one
+-- ---- the free ring; where it has a node, PutLaws.first-free says which
 
 pub no-free : {n c : ℕ} {xs : List ℕ} {cells : List Cell} → Stands n c xs cells [] → nextOf xs (linksAt n c) (2 * n) ≡ 2 * n
 no-free {n} {c} {xs} {cells} S =

@@ -15,4 +15,5 @@ pub mod Made
 pub mod Ends
 pub mod Searches
 pub mod ToRules
+pub mod Elsewhere
 pub mod OpenLaws

@@ -251,8 +251,10 @@ pub fn release(b: &mut [u8], n: u16, c: u16, x: u16)
         if x <= 2 * n {
             return;
         }
-        rings::unlink(b, log(n, c), k, x);
-        free(b, n, links(n, c), k, x);
+        let l = log(n, c);
+        rings::unlink(b, l, k, x);
+        let o = links(n, c);
+        free(b, n, o, k, x);
     }
 }
 

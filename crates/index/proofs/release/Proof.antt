@@ -27,9 +27,9 @@ returns-2 c =
 
 log-requires : tie.Need-log-requires
 log-requires c κs =
-    let if1 = c .before .before .before .before .if1 in
-    let in-range = c .before .before .before .before .before .in-range in
-    let args = c .before .before .before .before .before .before .before .args in
+    let args = c .before .before .before .before .before .before .args in
+    let in-range = c .before .before .before .before .in-range in
+    let if1 = c .before .before .before .if1 in
     range-true (args .n) (args .c) (in-range .ensures) (if1 .taken)
 
 unlink-requires : tie.Need-unlink-requires
@@ -40,10 +40,10 @@ links-requires c κs = search needs
 
 free-requires : tie.Need-free-requires
 free-requires c κs =
-    let back = c .before .before .before .before .before .before .before .before .before .before .before .before in
-    let if1 = c .before .before .before .before .before .before .before .before .before .before .if1 in
-    let in-range = c .before .before .before .before .before .before .before .before .before .before .before .in-range in
-    let args = back .before .args in
+    let back10 = c .before .before .before .before .before .before .before .before .before .before in
+    let args = back10 .before .before .before .args in
+    let in-range = back10 .before .in-range in
+    let if1 = back10 .if1 in
     range-true (args .n) (args .c) (in-range .ensures) (if1 .taken) .0
 
 same-length : tie.Need-same-length
@@ -51,15 +51,15 @@ same-length c = search needs
 
 returns-3 : tie.Need-returns-3
 returns-3 c =
-    let back = c .before .before .before .before .before .before .before .before .before .before .before .before in
-    let free = c .before .before .free in
-    let links = c .before .before .before .links in
+    let back10 = c .before .before .before .before .before .before .before .before .before .before in
+    let args = back10 .before .before .before .before .before .before .args in
+    let nodes = back10 .before .before .nodes in
+    let if2 = back10 .before .if2 in
+    let if3 = back10 .if3 in
+    let log = c .before .before .before .before .before .before .before .before .before .log in
     let unlink = c .before .before .before .before .before .before .before .unlink in
-    let log = c .before .before .before .before .before .before .before .before .log in
-    let if3 = c .before .before .before .before .before .before .before .before .before .before .if3 in
-    let if2 = c .before .before .before .before .before .before .before .before .before .before .before .if2 in
-    let nodes = back .nodes in
-    let args = back .before .before .before .before .args in
+    let links = c .before .before .before .before .links in
+    let free = c .before .before .free in
     release-made (args .n) (args .c) _ _ (nodes .ensures) (if2 .left) (if3 .left) (log .ensures) (unlink .ensures) (links .ensures) (free .ensures)
 
 returns-4 : tie.Need-returns-4
