@@ -1,8 +1,8 @@
 // The calendar's table in a lent buffer: each station is absent or has a due number, and stands in one bucket.
 //
 // Buckets 0 to 4095 are the leaves of the ring, 16 blocks of 256. Each is a linked list of stations in the order of (due, station). From 4096 on
-// is the overflow table: bucket 4096 + s has station s or nothing, so that a station enters and leaves it in constant time. All 17 groups of 256 buckets
-// stand under 17 bitmap words: 16 nodes of 16 buckets each and a root. A bit is set exactly when something is below it.
+// is the overflow table: bucket 4096 + s has station s or nothing, so that a station enters and leaves it in constant time. Each of the 17 groups of 256
+// buckets stands under 17 bitmap words: 16 nodes of 16 buckets each and a root. A bit is set exactly when something is below it.
 //
 // Layout, little-endian. The first 64 bytes are the caller's. Words of 64 bits from there on: due of station s at 64 + 8 s; 0 where it is absent. From
 // 2112 on half words of 16 bits: next of place p at p, prev of station s at 4609 + s, its bucket at 4865 + s, node j at 5121 + j, root r at 5393 + r.
