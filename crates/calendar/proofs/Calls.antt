@@ -9,7 +9,7 @@ use Rattle.calendar.specs.declared.Least.the-variants.{At}
 use Rattle.calendar.specs.Rules.{Calendar, lowestChecks, LeastAt, unregistered, registered, advanced}
 use Rattle.calendar.specs.Bytes.{Sound, stateOf}
 use Rattle.calendar.specs.Promises.{verdictOf, leastVerdict, Obeys, Names}
-use Rattle.calendar.specs.Left.{Left, by-open, by-register, by-unregister, by-extract, by-advance, by-refusal, by-none}
+use Rattle.calendar.specs.Left.{Left, by-open, by-register, by-unregister, by-extract, by-advance, by-refusal, by-none, by-no-open}
 
 -- the bytes are a calendar's and stand for that state
 pub left : {xs : List ℕ} {q : Calendar} → Left xs q → Sound xs × (stateOf xs ≡ q)
@@ -20,6 +20,7 @@ left (by-extract s t L P) = let H = left L in (P .sound (H .0), P .state (H .0) 
 left (by-advance f L P) = let H = left L in (P .sound (H .0), P .state (H .0) refl ∙ ap (λ (p : Calendar). advanced p f) (H .1))
 left (by-refusal e checks after L P) = let H = left L in (P .sound (H .0), ap stateOf (P .refusal e refl) ∙ H .1)
 left (by-none e L P) = let H = left L in (P .sound (H .0), ap stateOf (P .refusal e refl) ∙ H .1)
+left (by-no-open e n w L P) = let H = left L in let k = P .refusal e refl in (subst Sound (sym k) (H .0), ap stateOf k ∙ H .1)
 
 -- register, unregister and advance are judged by it
 pub left-answer : {xs ys : List ℕ} {q : Calendar} {checks : Calendar → List Check} {after : Calendar → Calendar} {r : Answer} → Left xs q

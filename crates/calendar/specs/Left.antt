@@ -23,3 +23,4 @@ pub data Left : List ℕ → Calendar → Type 0 where
   by-refusal : {xs ys : List ℕ} {q : Calendar} (e : Refusal) (checks : Calendar → List Check) (after : Calendar → Calendar)
       → Left xs q → Obeys checks after xs (Refused e) ys → Left ys q
   by-none : {xs ys : List ℕ} {q : Calendar} (e : Refusal) → Left xs q → Extracts xs (NoLeast e) ys → Left ys q
+  by-no-open : {xs ys : List ℕ} {q : Calendar} (e : Refusal) (n w : ℕ) → Left xs q → Opens n w xs (Refused e) ys → Left ys q
