@@ -10,6 +10,7 @@ pub mod MarkLaws
 pub mod UnmarkLaws
 pub mod FreeLaws
 pub mod Confines
+pub mod SlotLaws
 pub mod Refusals
 pub mod Made
 pub mod Ends

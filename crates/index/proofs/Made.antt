@@ -16,6 +16,7 @@ use Rattle.rings.specs.Walk.{steps}
 use Rattle.store.specs.Layout.{slotRow}
 use Rattle.store.specs.Records.{eventAt, putEvent, putState}
 use Rattle.index.specs.Shape.{linksAt, logAt, nodesOf, slotOf}
+use Rattle.index.specs.Slots.{Spares, Sets}
 use Rattle.index.specs.Stands.{cell, stopAt, filed, freed, Puts, Marks, Unmarks, Drops, Releases}
 use Rattle.index.proofs.Slots.{held-event}
 use Rattle.index.proofs.PutLaws.{putBytes, first-free, put-stands}
@@ -23,6 +24,7 @@ use Rattle.index.proofs.MarkLaws.{markBytes, node-of, mark-stands}
 use Rattle.index.proofs.UnmarkLaws.{unmarkBytes, unmark-stands}
 use Rattle.index.proofs.FreeLaws.{drop-stands, release-stands}
 use Rattle.index.proofs.Confines.{Inside, put-inside, mark-inside, unmark-inside, freed-inside, released-inside}
+use Rattle.index.proofs.SlotLaws.{put-spares, mark-spares, unmark-spares, unmark-sets, freed-spares, freed-sets, released-spares}
 
 -- where the status stands
 status : (n i : ℕ) → slotRow n i + 56 + 2 * 2 ≡ slotRow n i + 60
@@ -63,13 +65,16 @@ freed-made xs n o k x {i} ei e₁ e₂ e₃ = rw (e₃, e₂, e₁, status n i, 
 module _ (n c : ℕ) (xs : List ℕ) where
   pub put-made : (e : Event) {x o k i j : ℕ} {t₁ t₂ t₃ ys : List ℕ} → o ≡ linksAt n c → k ≡ nodesOf n c → x ≡ nextOf xs o (2 * n) → 2 * n < x → x < k
       → t₁ ≡ unlinked xs o k x → i ≡ slotOf n x → t₂ ≡ putEvent (slotRow n i) e t₁ → j ≡ slotOf n x → t₃ ≡ storeAt 2 (slotRow n j + 56 + 2 * 2) 1 t₂
-      → ys ≡ filed t₃ n o k (e .target) e x → Inside n c xs ys × Puts n c xs e x ys
+      → ys ≡ filed t₃ n o k (e .target) e x → Inside n c xs ys × (Puts n c xs e x ys × Spares n c x xs ys)
   put-made e {x} {o} {k} {i} {j} {t₁} {t₂} {t₃} {ys} eo ek ex lo hi e₁ ei e₂ ej e₃ e₄ = (
     rw made (put-inside n c xs x lo (rw ek at hi) e),
-    (λ A B z fs S fit l a b.
-        let q : x ≡ z = ex ∙ rw (← eo) at (first-free S .0) in
-        let E : ys ≡ putBytes n c xs e z = rw (← q) made in
-        (q, rw E (put-stands n c xs e z A B fs S fit l a b))),
+    (
+      (λ A B z fs S fit l a b.
+          let q : x ≡ z = ex ∙ rw (← eo) at (first-free S .0) in
+          let E : ys ≡ putBytes n c xs e z = rw (← q) made in
+          (q, rw E (put-stands n c xs e z A B fs S fit l a b))),
+      rw made (put-spares n c xs x e),
+    ),
   )
     where
       made : ys ≡ putBytes n c xs e x
@@ -79,13 +84,16 @@ module _ (n c : ℕ) (xs : List ℕ) where
     pub mark-made : (v : State) {o k l i a : ℕ} {e : Event} {t₁ t₂ t₃ t₄ ys : List ℕ} → o ≡ linksAt n c → k ≡ nodesOf n c → x < k → 2 * n < x
         → i ≡ slotOf n x → e ≡ eventAt (slotRow n i) xs → t₁ ≡ putState (slotRow n i + 24) v xs → t₂ ≡ storeAt 2 (slotRow n i + 56 + 2 * 2) 2 t₁
         → t₃ ≡ unlinked t₂ o k x → a ≡ prevOf t₃ o (n + e .target) → t₄ ≡ linkAfter t₃ o k a x → l ≡ logAt n c → ys ≡ filed t₄ n l k 0 e x
-        → Inside n c xs ys × Marks n c xs x v ys
+        → Inside n c xs ys × (Marks n c xs x v ys × Spares n c x xs ys)
     mark-made v {o} {k} {l} {i} {a} {e} {t₁} {t₂} {t₃} {t₄} {ys} eo ek hi lo ei ee e₁ e₂ e₃ ea e₄ el e₅ = (
       rw made (mark-inside n c xs x lo (rw ek at hi) e v),
-      (λ A B z free S fit first last.
-          let q : e ≡ z = (ee ∙ rw ei) ∙ held-event n xs x (unrun z) (node-of A (cell x (unrun z)) B S .0) in
-          let E : ys ≡ markBytes n c xs x z v = rw (← q) made in
-          rw E (mark-stands n c xs x z v A B free S fit first last)),
+      (
+        (λ A B z free S fit first last.
+            let q : e ≡ z = (ee ∙ rw ei) ∙ held-event n xs x (unrun z) (node-of A (cell x (unrun z)) B S .0) in
+            let E : ys ≡ markBytes n c xs x z v = rw (← q) made in
+            rw E (mark-stands n c xs x z v A B free S fit first last)),
+        rw made (mark-spares n c xs x e v),
+      ),
     )
       where
         made : ys ≡ markBytes n c xs x e v
@@ -93,24 +101,34 @@ module _ (n c : ℕ) (xs : List ℕ) where
 
     pub unmark-made : {o k l i : ℕ} {e : Event} {t₁ t₂ t₃ ys : List ℕ} → o ≡ linksAt n c → k ≡ nodesOf n c → x < k → 2 * n < x
         → i ≡ slotOf n x → e ≡ eventAt (slotRow n i) xs → t₁ ≡ storeAt 2 (slotRow n i + 56 + 2 * 2) 1 xs → l ≡ logAt n c → t₂ ≡ unlinked t₁ l k x
-        → t₃ ≡ unlinked t₂ o k x → ys ≡ linkAfter t₃ o k (e .target) x → Inside n c xs ys × Unmarks n c xs x ys
+        → t₃ ≡ unlinked t₂ o k x → ys ≡ linkAfter t₃ o k (e .target) x
+        → Inside n c xs ys × (Unmarks n c xs x ys × (Spares n c x xs ys × (eventAt (slotRow n (slotOf n x)) xs .target < n → Sets n c x 1 xs ys)))
     unmark-made {o} {k} {l} {i} {e} {t₁} {t₂} {t₃} {ys} eo ek hi lo ei ee e₁ el e₂ e₃ e₄ = (
       rw made (unmark-inside n c xs x lo (rw ek at hi) e),
-      (λ A B z b free S first last.
-          let q : e ≡ z = (ee ∙ rw ei) ∙ held-event n xs x (ran z b) (node-of A (cell x (ran z b)) B S .0) in
-          let E : ys ≡ unmarkBytes n c xs x z = rw (← q) made in
-          rw E (unmark-stands n c xs x z A B b free S first last)),
+      (
+        (λ A B z b free S first last.
+            let q : e ≡ z = (ee ∙ rw ei) ∙ held-event n xs x (ran z b) (node-of A (cell x (ran z b)) B S .0) in
+            let E : ys ≡ unmarkBytes n c xs x z = rw (← q) made in
+            rw E (unmark-stands n c xs x z A B b free S first last)),
+        (rw made (unmark-spares n c xs x e), (λ _. rw made (unmark-sets n c xs x e))),
+      ),
     )
       where
         made : ys ≡ unmarkBytes n c xs x e
         made = rw (e₄, e₃, e₂, e₁, status n i, ei, el, ek, eo)
 
     pub drop-made : {o k : ℕ} {ys : List ℕ} → k ≡ nodesOf n c → x < k → 2 * n < x → o ≡ linksAt n c → ys ≡ freed xs n o k x
-        → Inside n c xs ys × Drops n c xs x ys
+        → Inside n c xs ys × (Drops n c xs x ys × (Spares n c x xs ys × Sets n c x 0 xs ys))
     drop-made ek hi lo eo e₁ =
-        rw (e₁, eo, ek) (freed-inside n c xs x lo (rw ek at hi), (λ A B e free S. drop-stands n c xs x A B e free S))
+        rw (e₁, eo, ek) (
+          freed-inside n c xs x lo (rw ek at hi),
+          ((λ A B e free S. drop-stands n c xs x A B e free S), (freed-spares n c xs x, freed-sets n c xs x)),
+        )
 
     pub release-made : {o k l : ℕ} {t₁ ys : List ℕ} → k ≡ nodesOf n c → x < k → 2 * n < x → l ≡ logAt n c → t₁ ≡ unlinked xs l k x → o ≡ linksAt n c
-        → ys ≡ freed t₁ n o k x → Inside n c xs ys × Releases n c xs x ys
+        → ys ≡ freed t₁ n o k x → Inside n c xs ys × (Releases n c xs x ys × Spares n c x xs ys)
     release-made ek hi lo el e₁ eo e₂ =
-        rw (e₂, e₁, el, eo, ek) (released-inside n c xs x lo (rw ek at hi), (λ A B e b free S. release-stands n c xs x A B e b free S))
+        rw (e₂, e₁, el, eo, ek) (
+          released-inside n c xs x lo (rw ek at hi),
+          ((λ A B e b free S. release-stands n c xs x A B e b free S), released-spares n c xs x),
+        )

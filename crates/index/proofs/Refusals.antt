@@ -8,17 +8,19 @@ use borrow.Author.Tests.{le-leb, lt-leb, leb-true}
 use lib.Dec.{leb}
 use Rattle.line.specs.declared.Event.{Event}
 use Rattle.line.specs.declared.State.{State}
-use Rattle.rules.specs.Held.{Held, unrun, ran, event}
+use Rattle.rules.specs.Held.{Held, unrun, ran}
 use Rattle.rings.specs.Table.{nextOf}
 use Rattle.rings.proofs.Frames.{frame-same}
 use Rattle.store.specs.Layout.{slotRow}
 use Rattle.store.specs.Records.{eventAt}
 use Rattle.index.specs.Shape.{linksAt, nodesOf, slotOf, indexBytes, inRange}
+use Rattle.index.specs.Slots.{Spares, Sets}
 use Rattle.index.specs.Stands.{Cell, cell, Stands, Puts, Marks, Unmarks, Drops, Releases}
 use Rattle.index.proofs.Slots.{held-event}
 use Rattle.index.proofs.PutLaws.{first-free}
 use Rattle.index.proofs.MarkLaws.{node-of}
 use Rattle.index.proofs.Confines.{Inside}
+use Rattle.index.proofs.SlotLaws.{spares-same}
 
 -- ---- the range
 
@@ -43,59 +45,85 @@ module _ (n c : ℕ) where
   pub range-gone : {r : Bool} → r ≡ inRange n c → r ≡ false → n ≤ 256 → c ≤ 4096 → ⊥
   range-gone e z h k = true≢false (sym (in-range h k) ∙ sym e ∙ z)
 
--- numbers that bytes stand for are in range
-range-stands : {n c : ℕ} {xs : List ℕ} {cells : List Cell} {free : List ℕ} {r : Bool} → r ≡ inRange n c → r ≡ false → Stands n c xs cells free → ⊥
-range-stands {n} {c} e h S = let z : true ≡ false = sym (in-range n c (S .stations) (S .capacity)) ∙ sym e ∙ h in absurd (true≢false z)
-
 -- ---- no event's node
 
+-- the numbers are out of range, or node x is no slot's
+abbrev pub NoNode : ℕ → ℕ → ℕ → Type 0
+NoNode n c x = n ≤ 256 → c ≤ 4096 → 2 * n < x → x < nodesOf n c → ⊥
+
+-- or the event in its slot is at no station
 abbrev pub Refused : ℕ → ℕ → List ℕ → ℕ → Type 0
-Refused n c xs x = (A : List Cell) (h : Held) (B : List Cell) (free : List ℕ) → Stands n c xs (A ++ cell x h ∷ B) free → ⊥
+Refused n c xs x = eventAt (slotRow n (slotOf n x)) xs .target < n → NoNode n c x
+
+module _ (n c : ℕ) where
+  pub refused-range : {r : Bool} (x : ℕ) → r ≡ inRange n c → r ≡ false → NoNode n c x
+  refused-range x e z p q lo hi = range-gone n c e z p q
+
+  pub refused-over : {k x : ℕ} → k ≡ nodesOf n c → k ≤ x → NoNode n c x
+  refused-over ek l p q lo hi = omega arith
+
+  pub refused-low : {x : ℕ} → x ≤ 2 * n → NoNode n c x
+  refused-low l p q lo hi = omega arith
+
+  pub refused-target : (xs : List ℕ) (x : ℕ) {i : ℕ} {e : Event} → i ≡ slotOf n x → e ≡ eventAt (slotRow n i) xs → n ≤ e .target → Refused n c xs x
+  refused-target xs x {i} {e} ei ee l t p q lo hi =
+      let z : e ≡ eventAt (slotRow n (slotOf n x)) xs = ee ∙ rw ei in
+      omega (arith, t, l, ap (λ (e : Event). e .target) z)
 
 module _ (n c : ℕ) (xs : List ℕ) (x : ℕ) where
-  pub refused-range : {r : Bool} → r ≡ inRange n c → r ≡ false → Refused n c xs x
-  refused-range e z A h B free S = range-stands e z S
-
-  pub refused-over : {k : ℕ} → k ≡ nodesOf n c → k ≤ x → Refused n c xs x
-  refused-over ek l A h B free S = omega (arith, node-of A (cell x h) B S .3)
-
-  pub refused-low : x ≤ 2 * n → Refused n c xs x
-  refused-low l A h B free S = omega (arith, node-of A (cell x h) B S .1)
-
-  pub refused-target : {i : ℕ} {e : Event} → i ≡ slotOf n x → e ≡ eventAt (slotRow n i) xs → n ≤ e .target → Refused n c xs x
-  refused-target {i} {e} ei ee l A h B free S =
+  -- no cell's then
+  gone : Refused n c xs x → (A : List Cell) (h : Held) (B : List Cell) (free : List ℕ) → Stands n c xs (A ++ cell x h ∷ B) free → ⊥
+  gone R A h B free S =
       let w = node-of A (cell x h) B S in
-      let q : e ≡ eventAt (slotRow n (slotOf n x)) xs = ee ∙ rw ei in
-      let z : event h ≡ e = sym (held-event n xs x h (w .0)) ∙ sym q in
-      omega (arith, w .2, ap (λ (e : Event). e .target) z)
+      R (rw (held-event n xs x h (w .0)) (w .2)) (S .stations) (S .capacity) (w .1) (w .3)
+
+  unmoved : Inside n c xs xs
+  unmoved = frame-same (slotRow n 0) (indexBytes n c) xs
 
   module _ (R : Refused n c xs x) where
-    pub mark-none : (v : State) → Inside n c xs xs × Marks n c xs x v xs
-    mark-none v = (frame-same (slotRow n 0) (indexBytes n c) xs, (λ A B e free S _ _ _. absurd (R A (unrun e) B free S)))
+    pub mark-none : (v : State) → Inside n c xs xs × (Marks n c xs x v xs × Spares n c x xs xs)
+    mark-none v = (unmoved, ((λ A B e free S _ _ _. absurd (gone R A (unrun e) B free S)), spares-same n c x xs))
 
-    pub unmark-none : Inside n c xs xs × Unmarks n c xs x xs
-    unmark-none = (frame-same (slotRow n 0) (indexBytes n c) xs, (λ A B e b free S _ _. absurd (R A (ran e b) B free S)))
+    pub unmark-none : Inside n c xs xs
+        × (Unmarks n c xs x xs × (Spares n c x xs xs × (eventAt (slotRow n (slotOf n x)) xs .target < n → Sets n c x 1 xs xs)))
+    unmark-none = (
+      unmoved,
+      (
+        (λ A B e b free S _ _. absurd (gone R A (ran e b) B free S)),
+        (spares-same n c x xs, (λ t p q lo hi _. absurd (R t p q lo hi))),
+      ),
+    )
 
-    pub drop-none : Inside n c xs xs × Drops n c xs x xs
-    drop-none = (frame-same (slotRow n 0) (indexBytes n c) xs, (λ A B e free S. absurd (R A (unrun e) B free S)))
+  module _ (R : NoNode n c x) where
+    pub drop-none : Inside n c xs xs × (Drops n c xs x xs × (Spares n c x xs xs × Sets n c x 0 xs xs))
+    drop-none = (
+      unmoved,
+      (
+        (λ A B e free S. absurd (gone (λ _. R) A (unrun e) B free S)),
+        (spares-same n c x xs, (λ p q lo hi _. absurd (R p q lo hi))),
+      ),
+    )
 
-    pub release-none : Inside n c xs xs × Releases n c xs x xs
-    release-none = (frame-same (slotRow n 0) (indexBytes n c) xs, (λ A B e b free S. absurd (R A (ran e b) B free S)))
+    pub release-none : Inside n c xs xs × (Releases n c xs x xs × Spares n c x xs xs)
+    release-none = (unmoved, ((λ A B e b free S. absurd (gone (λ _. R) A (ran e b) B free S)), spares-same n c x xs))
 
 -- ---- no free node
 
 module _ (n c : ℕ) (xs : List ℕ) (e : Event) (r : ℕ) where
-  pub put-range : {v : Bool} → v ≡ inRange n c → v ≡ false → Inside n c xs xs × Puts n c xs e r xs
-  put-range q z = (frame-same (slotRow n 0) (indexBytes n c) xs, (λ A B x fs S _ _ _ _. absurd (range-stands q z S)))
+  -- nothing is done
+  left : Puts n c xs e r xs → Inside n c xs xs × (Puts n c xs e r xs × Spares n c r xs xs)
+  left P = (unmoved n c xs r, (P, spares-same n c r xs))
 
-  pub put-none : {o x : ℕ} → o ≡ linksAt n c → x ≡ nextOf xs o (2 * n) → x ≤ 2 * n → Inside n c xs xs × Puts n c xs e r xs
-  put-none {o} {x} eo q l = (
-    frame-same (slotRow n 0) (indexBytes n c) xs,
-    (λ A B y fs S _ _ _ _. let z : x ≡ nextOf xs (linksAt n c) (2 * n) = rw eo at q in absurd (omega (arith, first-free S .0, first-free S .1))),
-  )
+  pub put-range : {v : Bool} → v ≡ inRange n c → v ≡ false → Inside n c xs xs × (Puts n c xs e r xs × Spares n c r xs xs)
+  put-range q z = left (λ A B x fs S _ _ _ _. absurd (range-gone n c q z (S .stations) (S .capacity)))
 
-  pub put-over : {o k x : ℕ} → o ≡ linksAt n c → k ≡ nodesOf n c → x ≡ nextOf xs o (2 * n) → k ≤ x → Inside n c xs xs × Puts n c xs e r xs
-  put-over {o} {k} {x} eo ek q l = (
-    frame-same (slotRow n 0) (indexBytes n c) xs,
-    (λ A B y fs S _ _ _ _. let z : x ≡ nextOf xs (linksAt n c) (2 * n) = rw eo at q in absurd (omega (arith, first-free S .0, first-free S .2))),
-  )
+  pub put-none : {o x : ℕ} → o ≡ linksAt n c → x ≡ nextOf xs o (2 * n) → x ≤ 2 * n → Inside n c xs xs × (Puts n c xs e r xs × Spares n c r xs xs)
+  put-none {o} {x} eo q l =
+      left
+      (λ A B y fs S _ _ _ _. let z : x ≡ nextOf xs (linksAt n c) (2 * n) = rw eo at q in absurd (omega (arith, first-free S .0, first-free S .1)))
+
+  pub put-over : {o k x : ℕ} → o ≡ linksAt n c → k ≡ nodesOf n c → x ≡ nextOf xs o (2 * n) → k ≤ x
+      → Inside n c xs xs × (Puts n c xs e r xs × Spares n c r xs xs)
+  put-over {o} {k} {x} eo ek q l =
+      left
+      (λ A B y fs S _ _ _ _. let z : x ≡ nextOf xs (linksAt n c) (2 * n) = rw eo at q in absurd (omega (arith, first-free S .0, first-free S .2)))

@@ -1,3 +1,4 @@
 pub mod Shape
 pub mod Stands
+pub mod Slots
 pub mod Opening

@@ -12,7 +12,9 @@ ghost use Prim.Native.Nat.{_+_, _-_, _*_, _≤_, _<_};
 ghost use Rattle.rings.specs.Table.{nextOf, prevOf, Frame};
 ghost use Rattle.rings.specs.Walk.{steps};
 ghost use Rattle.store.specs.Layout.{slotRow};
+ghost use Rattle.store.specs.Records.{eventAt};
 ghost use Rattle.index.specs.Shape.{linksAt, logAt, nodesOf, indexBytes, inRange, slotOf};
+ghost use Rattle.index.specs.Slots.{Spares, Sets};
 ghost use Rattle.index.specs.Opening.{emptied, filled, Clears};
 ghost use Rattle.index.specs.Stands.{stopAt, filed, freed, Puts, Marks, Unmarks, Drops, Releases};
 use line::Event;
@@ -135,6 +137,7 @@ fn file(b: &mut [u8], n: u16, o: u32, k: u16, s: u16, e: Event, x: u16)
 pub fn put(b: &mut [u8], n: u16, c: u16, e: Event) -> u16
     ensures frame { λ _. ⌜ Frame (slotRow n 0) (indexBytes n c) (now (b .entry)) (now (b .exit)) ⌝ }
     ensures puts { λ r. ⌜ Puts n c (now (b .entry)) e r (now (b .exit)) ⌝ }
+    ensures spares { λ r. ⌜ Spares n c r (now (b .entry)) (now (b .exit)) ⌝ }
 {
     if in_range(n, c) {
         let o = links(n, c);
@@ -159,6 +162,7 @@ pub fn put(b: &mut [u8], n: u16, c: u16, e: Event) -> u16
 pub fn mark(b: &mut [u8], n: u16, c: u16, x: u16, v: State)
     ensures frame { λ _. ⌜ Frame (slotRow n 0) (indexBytes n c) (now (b .entry)) (now (b .exit)) ⌝ }
     ensures marks { λ _. ⌜ Marks n c (now (b .entry)) x v (now (b .exit)) ⌝ }
+    ensures spares { λ _. ⌜ Spares n c x (now (b .entry)) (now (b .exit)) ⌝ }
 {
     if in_range(n, c) {
         let o = links(n, c);
@@ -188,6 +192,8 @@ pub fn mark(b: &mut [u8], n: u16, c: u16, x: u16, v: State)
 pub fn unmark(b: &mut [u8], n: u16, c: u16, x: u16)
     ensures frame { λ _. ⌜ Frame (slotRow n 0) (indexBytes n c) (now (b .entry)) (now (b .exit)) ⌝ }
     ensures unmarks { λ _. ⌜ Unmarks n c (now (b .entry)) x (now (b .exit)) ⌝ }
+    ensures spares { λ _. ⌜ Spares n c x (now (b .entry)) (now (b .exit)) ⌝ }
+    ensures sets { λ _. ⌜ (eventAt (slotRow n (slotOf n x)) (now (b .entry)) .target < n → Sets n c x 1 (now (b .entry)) (now (b .exit))) ⌝ }
 {
     if in_range(n, c) {
         let o = links(n, c);
@@ -225,6 +231,8 @@ fn free(b: &mut [u8], n: u16, o: u32, k: u16, x: u16)
 pub fn drop(b: &mut [u8], n: u16, c: u16, x: u16)
     ensures frame { λ _. ⌜ Frame (slotRow n 0) (indexBytes n c) (now (b .entry)) (now (b .exit)) ⌝ }
     ensures drops { λ _. ⌜ Drops n c (now (b .entry)) x (now (b .exit)) ⌝ }
+    ensures spares { λ _. ⌜ Spares n c x (now (b .entry)) (now (b .exit)) ⌝ }
+    ensures sets { λ _. ⌜ Sets n c x 0 (now (b .entry)) (now (b .exit)) ⌝ }
 {
     if in_range(n, c) {
         let k = nodes(n, c);
@@ -242,6 +250,7 @@ pub fn drop(b: &mut [u8], n: u16, c: u16, x: u16)
 pub fn release(b: &mut [u8], n: u16, c: u16, x: u16)
     ensures frame { λ _. ⌜ Frame (slotRow n 0) (indexBytes n c) (now (b .entry)) (now (b .exit)) ⌝ }
     ensures releases { λ _. ⌜ Releases n c (now (b .entry)) x (now (b .exit)) ⌝ }
+    ensures spares { λ _. ⌜ Spares n c x (now (b .entry)) (now (b .exit)) ⌝ }
 {
     if in_range(n, c) {
         let k = nodes(n, c);

@@ -15,7 +15,7 @@ returns : tie.Need-returns
 returns c =
     let nodes = c .before .nodes in
     let args = c .before .before .before .before .before .args in
-    drop-none (args .n) (args .c) _ _ (refused-over (args .n) (args .c) _ _ (nodes .ensures) (c .if2 .taken))
+    drop-none (args .n) (args .c) _ _ (refused-over (args .n) (args .c) (nodes .ensures) (c .if2 .taken))
 
 mul-if3 : tie.Need-mul-if3
 mul-if3 c = search needs
@@ -23,7 +23,7 @@ mul-if3 c = search needs
 returns-2 : tie.Need-returns-2
 returns-2 c =
     let args = c .before .before .before .before .before .before .args in
-    drop-none (args .n) (args .c) _ _ (refused-low (args .n) (args .c) _ _ (c .if3 .taken))
+    drop-none (args .n) (args .c) _ _ (refused-low (args .n) (args .c) (c .if3 .taken))
 
 links-requires : tie.Need-links-requires
 links-requires c κs = search needs
@@ -52,7 +52,7 @@ returns-4 : tie.Need-returns-4
 returns-4 c =
     let in-range = c .before .in-range in
     let args = c .before .before .before .args in
-    drop-none (args .n) (args .c) _ _ (refused-range (args .n) (args .c) _ _ (in-range .ensures) (c .if1 .left))
+    drop-none (args .n) (args .c) _ _ (refused-range (args .n) (args .c) _ (in-range .ensures) (c .if1 .left))
 
 pub drop-spec : {M : Type 1} → statement M
 drop-spec =

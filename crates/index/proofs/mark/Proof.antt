@@ -23,7 +23,7 @@ returns : tie.Need-returns
 returns c =
     let nodes = c .before .nodes in
     let args = c .before .before .before .before .before .before .args in
-    mark-none (args .n) (args .c) _ _ (refused-over (args .n) (args .c) _ _ (nodes .ensures) (c .if2 .taken)) _
+    mark-none (args .n) (args .c) _ _ (λ _. refused-over (args .n) (args .c) (nodes .ensures) (c .if2 .taken)) _
 
 mul-if3 : tie.Need-mul-if3
 mul-if3 c = search needs
@@ -31,7 +31,7 @@ mul-if3 c = search needs
 returns-2 : tie.Need-returns-2
 returns-2 c =
     let args = c .before .before .before .before .before .before .before .args in
-    mark-none (args .n) (args .c) _ _ (refused-low (args .n) (args .c) _ _ (c .if3 .taken)) _
+    mark-none (args .n) (args .c) _ _ (λ _. refused-low (args .n) (args .c) (c .if3 .taken)) _
 
 slot-requires : tie.Need-slot-requires
 slot-requires c κs =
@@ -117,7 +117,7 @@ returns-5 : tie.Need-returns-5
 returns-5 c =
     let in-range = c .before .in-range in
     let args = c .before .before .before .args in
-    mark-none (args .n) (args .c) _ _ (refused-range (args .n) (args .c) _ _ (in-range .ensures) (c .if1 .left)) _
+    mark-none (args .n) (args .c) _ _ (λ _. refused-range (args .n) (args .c) _ (in-range .ensures) (c .if1 .left)) _
 
 pub mark-spec : {M : Type 1} → statement M
 mark-spec =

@@ -15,7 +15,7 @@ returns : tie.Need-returns
 returns c =
     let nodes = c .before .nodes in
     let args = c .before .before .before .before .before .args in
-    release-none (args .n) (args .c) _ _ (refused-over (args .n) (args .c) _ _ (nodes .ensures) (c .if2 .taken))
+    release-none (args .n) (args .c) _ _ (refused-over (args .n) (args .c) (nodes .ensures) (c .if2 .taken))
 
 mul-if3 : tie.Need-mul-if3
 mul-if3 c = search needs
@@ -23,7 +23,7 @@ mul-if3 c = search needs
 returns-2 : tie.Need-returns-2
 returns-2 c =
     let args = c .before .before .before .before .before .before .args in
-    release-none (args .n) (args .c) _ _ (refused-low (args .n) (args .c) _ _ (c .if3 .taken))
+    release-none (args .n) (args .c) _ _ (refused-low (args .n) (args .c) (c .if3 .taken))
 
 log-requires : tie.Need-log-requires
 log-requires c κs =
@@ -66,7 +66,7 @@ returns-4 : tie.Need-returns-4
 returns-4 c =
     let in-range = c .before .in-range in
     let args = c .before .before .before .args in
-    release-none (args .n) (args .c) _ _ (refused-range (args .n) (args .c) _ _ (in-range .ensures) (c .if1 .left))
+    release-none (args .n) (args .c) _ _ (refused-range (args .n) (args .c) _ (in-range .ensures) (c .if1 .left))
 
 pub release-spec : {M : Type 1} → statement M
 release-spec =
