@@ -11,6 +11,5 @@ pub mod Writing
 pub mod Floor
 pub mod Fetching
 pub mod Opening
-pub mod Edges
 pub mod Bits
 pub mod Calls

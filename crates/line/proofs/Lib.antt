@@ -3,4 +3,3 @@ pub mod Order
 pub mod Fits
 pub mod Sends
 pub mod Said
-pub mod Edges

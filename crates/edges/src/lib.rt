@@ -1,0 +1,1 @@
+// No code: the edges that the paper marks, as theorems.
