@@ -1,0 +1,61 @@
+-- An event leaves by the code of `discard` and of `release`, from what their calls promise.
+use mathlib.Core.Path.{_≡_, _∙_, subst}
+use mathlib.Core.Logic.{_≢_}
+use mathlib.Core.Bool.{Bool, true}
+use mathlib.Core.List.{List}
+use Prim.Native.Nat.{ℕ, _+_, _*_, _≤_, _<_}
+use native.Mathlib.Omega.{arith}
+use lib.ListN.{length}
+use Rattle.words.specs.Le.{loadAt}
+use Rattle.line.specs.declared.Event.{Event}
+use Rattle.rules.specs.Held.{unrun}
+use Rattle.store.specs.Layout.{slotRow}
+use Rattle.store.specs.Records.{eventAt}
+use Rattle.index.specs.Shape.{nodesOf, slotOf}
+use Rattle.index.specs.Slots.{Spares, Sets}
+use Rattle.index.specs.Stands.{Drops}
+use Rattle.index.specs.Stands.{Releases as IndexReleases}
+use Rattle.queue.specs.Holds.{fitsIn}
+use Rattle.queue.specs.Count.{runsBelow}
+use Rattle.queue.specs.Steps.{Behind, Tells, Leaves, Releases}
+use Rattle.queue.proofs.Fitting.{fits-true}
+use Rattle.queue.proofs.Behinds.{behind, behind-same, behind-on}
+use Rattle.queue.proofs.Counts.{runs-most}
+use Rattle.queue.proofs.Leaving.{leaves, releases}
+use Rattle.queue.proofs.Promises.{Told, Indexed, told-status}
+use Rattle.queue.proofs.Nowhere.{Nowhere, event-is}
+
+-- ---- release
+
+pub release-made : (n c x : ℕ) {xs ys : List ℕ} → Indexed n c xs ys × (IndexReleases n c xs x ys × Spares n c x xs ys)
+    → Behind xs ys × Releases n c xs x ys
+release-made n c x I = (behind (omega arith) (I .0), releases n c x (I .0) (I .1 .1) (I .1 .0))
+
+-- ---- discard
+
+module _ (n c x : ℕ) where
+  pub discard-made : (e : Event) {v : Bool} {xs ys zs : List ℕ} → v ≡ fitsIn n c (length xs) → v ≡ true → 2 * n < x → x < nodesOf n c
+      → e ≡ eventAt (slotRow n (slotOf n x)) xs
+      → Indexed n c xs ys × (Drops n c xs x ys × (Spares n c x xs ys × Sets n c x 0 xs ys)) → Told n c (e .target) ys zs
+      → Behind xs zs × ((runsBelow n zs c ≤ runsBelow n xs c) × Leaves n c xs x zs)
+  discard-made e {v} {xs} {ys} {zs} k t low high q I T = (
+    behind-on (behind (omega arith) (I .0)) (behind (omega arith) (T .0)),
+    (runs-most n xs zs (slotOf n x) left c (λ i l d. told-status n c T i ∙ I .1 .1 .0 .statuses i l d), gone),
+  )
+    where
+      w : (n ≤ 256) × (c ≤ 4096) × (32768 + 256 * n + 256 * c ≤ length xs)
+      w = fits-true n c (length xs) k t
+
+      zero-is : loadAt 2 (slotRow n (slotOf n x) + 60) zs ≡ 0
+      zero-is = told-status n c T (slotOf n x) ∙ I .1 .1 .1 (w .0) (w .1) low high (omega (arith, w .2))
+
+      left : loadAt 2 (slotRow n (slotOf n x) + 60) zs ≢ 2
+      left z = omega (arith, zero-is, z)
+
+      gone : Leaves n c xs x zs
+      gone p now r cells f H m un =
+          let z : e ≡ f = q ∙ event-is n c x xs (unrun f) (H .stores) m in
+          leaves n c x (I .0) (I .1 .1 .0) f (I .1 .0) (subst (λ g. Tells n c (g .target) ys zs) z (T .1)) p now r cells H m un
+
+  pub discard-none : (xs : List ℕ) → Nowhere n c xs x → Behind xs xs × ((runsBelow n xs c ≤ runsBelow n xs c) × Leaves n c xs x xs)
+  discard-none xs R = (behind-same xs, (omega arith, (λ p now q cells e H m _. absurd (R p now q cells (unrun e) (H .stores) m))))

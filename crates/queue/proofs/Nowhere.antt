@@ -1,0 +1,40 @@
+-- Where the code does nothing, no event is held at the node: the bytes hold no queue, or the node is no slot's, or its event is at no station.
+use mathlib.Core.Path.{_≡_, ap, _∙_}
+use mathlib.Core.Bool.{Bool, false}
+use mathlib.Core.List.{List}
+use Prim.Native.Nat.{ℕ, _*_, _≤_}
+use native.Mathlib.Omega.{arith}
+use lib.ListN.{length}
+use Rattle.line.specs.declared.Event.{Event}
+use Rattle.line.specs.Station.{Plan}
+use Rattle.rules.specs.Held.{Held, event, Queue}
+use Rattle.store.specs.Layout.{slotRow}
+use Rattle.store.specs.Records.{eventAt}
+use Rattle.index.specs.Shape.{nodesOf, slotOf}
+use Rattle.index.specs.Stands.{Cell, cell}
+use Rattle.index.proofs.Slots.{held-event}
+use Rattle.queue.specs.Holds.{fitsIn, Has, Stores}
+use Rattle.queue.proofs.Fitting.{fits-gone}
+use Rattle.queue.proofs.Members.{member, member-target}
+
+-- there is no cell of node x
+abbrev pub Nowhere : ℕ → ℕ → List ℕ → ℕ → Type 0
+Nowhere n c xs x = (p : Plan) (now : ℕ) (q : Queue) (cells : List Cell) (h : Held) → Stores p n c now xs q cells → Has (cell x h) cells → ⊥
+
+module _ (n c x : ℕ) (xs : List ℕ) where
+  pub nowhere-fits : {v : Bool} → v ≡ fitsIn n c (length xs) → v ≡ false → Nowhere n c xs x
+  nowhere-fits e z p now q cells h S m = fits-gone e z S
+
+  pub nowhere-low : x ≤ 2 * n → Nowhere n c xs x
+  nowhere-low l p now q cells h S m = omega (arith, member (S .stands) (cell x h) m .1)
+
+  pub nowhere-over : nodesOf n c ≤ x → Nowhere n c xs x
+  nowhere-over l p now q cells h S m = omega (arith, member (S .stands) (cell x h) m .3)
+
+  pub event-is : {p : Plan} {now : ℕ} {q : Queue} {cells : List Cell} (h : Held) → Stores p n c now xs q cells → Has (cell x h) cells
+      → eventAt (slotRow n (slotOf n x)) xs ≡ event h
+  event-is h S m = held-event n xs x h (member (S .stands) (cell x h) m .0)
+
+  pub nowhere-target : {e : Event} → e ≡ eventAt (slotRow n (slotOf n x)) xs → n ≤ e .target → Nowhere n c xs x
+  nowhere-target {e} q l p now r cells h S m =
+      omega (arith, member-target (S .stands) (cell x h) m, ap (λ (f : Event). f .target) (q ∙ event-is h S m))

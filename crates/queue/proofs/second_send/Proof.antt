@@ -1,0 +1,21 @@
+-- The call's slot is the node's.
+use mathlib.Core.Path.{refl}
+use native.Mathlib.Omega.{arith}
+use Rattle.queue.proofs.Numbers.{number-at}
+use borrow.Author.Needs.{needs}
+use Rattle.queue.proofs.second_send.Statement.{statement}
+use Rattle.queue.proofs.second_send.Tie as tie
+
+slot-requires : tie.Need-slot-requires
+slot-requires c κs = search needs
+
+number-requires : tie.Need-number-requires
+number-requires c κs = search needs
+
+returns : tie.Need-returns
+returns c =
+    let args = c .before .before .before .args in
+    number-at (args .n) (args .x) 1 58 _ (c .before .slot .ensures) (c .number .ensures .0 (omega arith)) refl
+
+pub second-send-spec : {M : Type 1} → statement M
+second-send-spec = tie.close (tie.spec slot-requires number-requires returns)
