@@ -1,0 +1,13 @@
+pub mod Down
+pub mod Cells
+pub mod Gone
+pub mod Stays
+pub mod Removal
+pub mod Due
+pub mod UndoLaws
+pub mod Top
+pub mod Turns
+pub mod Adding
+pub mod Few
+pub mod Behinds
+pub mod Answers
