@@ -1,4 +1,4 @@
--- What an undo, a removal and undoing from an event on leave is in order again, and a replay.
+-- What an undo and a removal leave is in order again, and a replay.
 use mathlib.Core.Path.{refl, subst}
 use mathlib.Core.List.{List}
 use Prim.Native.Nat.{suc, _≤_}

@@ -112,6 +112,19 @@ fn store_state(b: &mut [u8], at: usize, s: State)
     words::store32(b, at + 16, s.sent);
 }
 
+// The event as 24 bytes at a byte of any buffer.
+pub fn write_event(b: &mut [u8], at: u32, e: Event)
+    ensures { λ _. ⌜ now (b .exit) ≡ putEvent at e (now (b .entry)) ⌝ }
+{
+    store_event(b, at as usize, e);
+}
+
+pub fn read_event(b: &[u8], at: u32) -> Event
+    ensures { λ r. ⌜ r ≡ eventAt at (now (b .entry)) ⌝ }
+{
+    load_event(b, at as usize)
+}
+
 // ---- stations
 
 // A station's numbers of the plan.

@@ -1,0 +1,98 @@
+-- The first event of the log is written and leaves, so many times; the measure is how many are left.
+use mathlib.Core.Path.{_≡_, refl, ap, _∙_}
+use Prim.Native.Nat.{_-_, _≤_}
+use native.Mathlib.Omega.{arith}
+use borrow.Author.Needs.{needs}
+use lib.ListN.{length}
+use Rattle.store.proofs.RecordLaws.{length-event}
+use Rattle.queue.specs.Steps.{Behind}
+use Rattle.queue.proofs.Behinds.{behind-same, behind-on}
+use Rattle.engine.proofs.Writing.{Writing, writing-start, writing-on, writing-ends}
+use Rattle.engine.proofs.write_first.Statement.{statement}
+use Rattle.engine.proofs.write_first.Tie as tie
+
+abbrev Inv-loop : tie.InvT-loop
+Inv-loop b₀ n c count out₀ k₀ b out k = (k ≤ count) × (length out ≡ length out₀) × Behind b₀ b × Writing n c b₀ count out₀ k b out
+
+abbrev μ-loop : tie.MeasureT-loop
+μ-loop b₀ n c count out₀ k₀ b out k = count - k
+
+loop-holds : tie.Need-loop-holds Inv-loop μ-loop
+loop-holds c =
+    let args = c .before .before .args in
+    (omega arith, refl, behind-same (args .b .now), writing-start (args .n) (args .c) (args .b .now) (args .count) (args .out .now))
+
+next-logged-requires : tie.Need-next-logged-requires Inv-loop μ-loop
+next-logged-requires c κs = search needs
+
+event-requires : tie.Need-event-requires Inv-loop μ-loop
+event-requires c κs = search needs
+
+cast-write-event : tie.Need-cast-write-event Inv-loop μ-loop
+cast-write-event c = omega arith
+
+mul-write-event : tie.Need-mul-write-event Inv-loop μ-loop
+mul-write-event c = omega arith
+
+write-event-requires : tie.Need-write-event-requires Inv-loop μ-loop
+write-event-requires c κs = search needs
+
+release-requires : tie.Need-release-requires Inv-loop μ-loop
+release-requires c κs = search needs
+
+add-k : tie.Need-add-k Inv-loop μ-loop
+add-k c = omega arith
+
+loop-less : tie.Need-loop-less Inv-loop μ-loop
+loop-less c = omega arith
+
+loop-again : tie.Need-loop-again Inv-loop μ-loop
+loop-again c =
+    let w = c .before .before .before .before .before .before in
+    let l = w .before .before .before .before .before .before .before in
+    let args = l .before .before .before .args in
+    let inv = l .loop .inv in
+    let more = w .before .before .before .before .before .before .loop-test .taken in
+    let put = w .write-event .ensures in
+    let gone = c .before .before .release .ensures in (
+      omega (arith, more),
+      ap length put ∙ length-event _ _ _ ∙ inv .1,
+      behind-on (inv .2) (gone .0),
+      writing-on (args .n) (args .c) (args .b .now) (args .count) (args .out .now) (inv .3) more
+          (w .before .before .before .before .next-logged .ensures)
+          (w .before .before .event .ensures)
+          put
+          (gone .1),
+    )
+
+same-length : tie.Need-same-length Inv-loop μ-loop
+same-length c = search needs
+
+same-length-2 : tie.Need-same-length-2 Inv-loop μ-loop
+same-length-2 c = search needs
+
+returns : tie.Need-returns Inv-loop μ-loop
+returns c =
+    let args = c .before .before .before .before .args in
+    let inv = c .before .loop .inv in
+    (inv .2, writing-ends (args .n) (args .c) (args .b .now) (args .count) (args .out .now) (inv .3) (omega (arith, inv .0, c .loop-test .left)))
+
+pub write-first-spec : {M : Type 1} → statement M
+write-first-spec =
+    tie.close
+    (tie.spec
+    Inv-loop
+    μ-loop
+    loop-holds
+    next-logged-requires
+    event-requires
+    cast-write-event
+    mul-write-event
+    write-event-requires
+    release-requires
+    add-k
+    loop-less
+    loop-again
+    same-length
+    same-length-2
+    returns)
