@@ -89,8 +89,10 @@ last-reading c st a b h s = go (eqb s 0)
         → cond v (silent st) (send s (horizon + c .hop) (c .parent) (Matter.Frame s) (send s (horizon + period c st) s Matter.Read (silent st))) .sends ≡ []
     go true = refl
     go false =
-        rw (late-send s (c .hop) (c .parent) (Matter.Frame s) (send s (horizon + period c st) s Matter.Read (silent st)) h,
-        late-send s (period c st) s Matter.Read (silent st) (period-some c st a b))
+        rw (
+          late-send s (c .hop) (c .parent) (Matter.Frame s) (send s (horizon + period c st) s Matter.Read (silent st)) h,
+          late-send s (period c st) s Matter.Read (silent st) (period-some c st a b),
+        )
 
 -- ---- the table
 

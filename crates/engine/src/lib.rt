@@ -185,10 +185,8 @@ pub fn post(b: &mut [u8], station: u64, time: u64, kind: u64, value: u64) -> Pos
     };
     let added = rollback::add(b, n, c, e);
     store::set_header(b, 3, number + 1);
-    PostAnswer::Done {
-        number,
-        undone: added.undone,
-    }
+    let undone = added.undone;
+    PostAnswer::Done { number, undone }
 }
 
 // ---- retract

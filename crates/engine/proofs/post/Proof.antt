@@ -151,11 +151,11 @@ returns-7 c =
     none-free (stations .ensures) (capacity .ensures) _ _ _ _ (if2 .left) _ (sym (matter-of .ensures) ∙ m .given .1) (if3 .left)
     (header .ensures .0 (omega arith)) (if4 .left) (header2 .ensures .0 (omega arith)) (if5 .left) (rw (if6 .taken) at (full .ensures))
 
-cast-t36 : tie.Need-cast-t36
-cast-t36 c = search needs
-
 cast-t37 : tie.Need-cast-t37
 cast-t37 c = search needs
+
+cast-t38 : tie.Need-cast-t38
+cast-t38 c = search needs
 
 add-requires : tie.Need-add-requires
 add-requires c κs = search needs
@@ -219,8 +219,8 @@ post-spec =
     full-requires
     same-length-7
     returns-7
-    cast-t36
     cast-t37
+    cast-t38
     add-requires
     add-set-header
     set-header-requires
