@@ -1,9 +1,29 @@
 # The gate is `sh .ci/run`. This file has what is run by hand.
 
-.PHONY: benchmark-calendar
+.PHONY: library example fuzz benchmark benchmark-calendar
+
+CASES ?= 2000
+SEED ?= 1
+ROUNDS ?=
+CARGO = cargo --offline
+
+# The proved calls as a library for Rust.
+library:
+	rt staticlib exports
+
+# An hour of a small line.
+example: library
+	cd rust && $(CARGO) run --release --example line
+
+# The engine against a simple one, call by call, and on damaged buffers.
+fuzz: library
+	cd rust && $(CARGO) run --release --bin fuzz -- $(CASES) $(SEED)
+
+# The engine against a plain machine on std's BinaryHeap, in one run; ROUNDS=5 by default.
+benchmark: library
+	cd rust && $(CARGO) run --release --bin benchmark -- $(ROUNDS)
 
 # The calendar against std's BTreeSet, in one run; ROUNDS=20 by default.
-benchmark-calendar:
-	rt staticlib exports
+benchmark-calendar: library
 	rustc -O --edition 2021 benchmarks/calendar.rs -L target/staticlib -o target/benchmark-calendar
 	target/benchmark-calendar $(ROUNDS)

@@ -2,8 +2,8 @@
 use mathlib.Core.Path.{sym, ap, _∙_}
 use borrow.Author.Needs.{needs}
 use Rattle.exports.specs.Codes.{codeOf}
-use Rattle.exports.proofs.code.Statement.{statement}
-use Rattle.exports.proofs.code.Tie as tie
+use Rattle.exports.proofs.calendar_calls.code.Statement.{statement}
+use Rattle.exports.proofs.calendar_calls.code.Tie as tie
 
 enum-told : tie.Need-enum-told
 enum-told c = search needs

@@ -4,8 +4,8 @@ use borrow.Author.Needs.{needs}
 use denote.Ref.{now}
 use Rattle.calendar.specs.declared.Least.{Least}
 use Rattle.exports.specs.Codes.{leastCode, found}
-use Rattle.exports.proofs.tell.Statement.{statement}
-use Rattle.exports.proofs.tell.Tie as tie
+use Rattle.exports.proofs.calendar_calls.tell.Statement.{statement}
+use Rattle.exports.proofs.calendar_calls.tell.Tie as tie
 
 enum-known-l : tie.Need-enum-known-l
 enum-known-l c = search needs

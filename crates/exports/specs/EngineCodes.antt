@@ -1,0 +1,74 @@
+-- The number that a caller in Rust or C gets for the answer of an engine's call, and the numbers that are lent for its values, as the call leaves them.
+use mathlib.Core.List.{List, [], _∷_}
+use Prim.Native.Nat.{ℕ}
+use lib.ListN.{set}
+use Rattle.refusal.specs.Numbers.{numberOf, stationsOf}
+use Rattle.engine.specs.declared.OpenAnswer.{OpenAnswer}
+use Rattle.engine.specs.declared.OpenAnswer.the-variants as O
+use Rattle.engine.specs.declared.PostAnswer.{PostAnswer}
+use Rattle.engine.specs.declared.PostAnswer.the-variants as P
+use Rattle.engine.specs.declared.RetractAnswer.{RetractAnswer}
+use Rattle.engine.specs.declared.RetractAnswer.the-variants as T
+use Rattle.engine.specs.declared.RunAnswer.{RunAnswer}
+use Rattle.engine.specs.declared.RunAnswer.the-variants as R
+use Rattle.engine.specs.declared.CommitAnswer.{CommitAnswer}
+use Rattle.engine.specs.declared.CommitAnswer.the-variants as C
+use Rattle.engine.specs.declared.RecordAnswer.{RecordAnswer}
+use Rattle.engine.specs.declared.RecordAnswer.the-variants as D
+
+-- ---- the number: 0 where it is no refusal
+
+abbrev pub openCode : OpenAnswer → ℕ
+openCode O.Done = 0
+openCode (O.Refused e) = numberOf e
+
+abbrev pub postCode : PostAnswer → ℕ
+postCode (P.Done number undone) = 0
+postCode (P.Refused e) = numberOf e
+
+abbrev pub retractCode : RetractAnswer → ℕ
+retractCode (T.Done undone) = 0
+retractCode (T.Refused e) = numberOf e
+
+abbrev pub runCode : RunAnswer → ℕ
+runCode (R.Done station undone) = 0
+runCode (R.Refused e) = numberOf e
+
+abbrev pub commitCode : CommitAnswer → ℕ
+commitCode (C.Done count) = 0
+commitCode (C.Refused e) = numberOf e
+
+abbrev pub recordCode : RecordAnswer → ℕ
+recordCode (D.Done state) = 0
+recordCode (D.Refused e) = numberOf e
+
+-- ---- the values
+
+-- the station of 2, 4 and 5
+abbrev pub firstOr : List ℕ → List ℕ → List ℕ
+firstOr [] old = old
+firstOr (s ∷ ss) old = set old 0 s
+
+abbrev pub opened : OpenAnswer → List ℕ → List ℕ
+opened O.Done old = old
+opened (O.Refused e) old = firstOr (stationsOf e) old
+
+abbrev pub posted : PostAnswer → List ℕ → List ℕ
+posted (P.Done number undone) old = set (set old 0 number) 1 undone
+posted (P.Refused e) old = old
+
+abbrev pub retracted : RetractAnswer → List ℕ → List ℕ
+retracted (T.Done undone) old = set old 0 undone
+retracted (T.Refused e) old = old
+
+abbrev pub ran : RunAnswer → List ℕ → List ℕ
+ran (R.Done station undone) old = set (set old 0 station) 1 undone
+ran (R.Refused e) old = old
+
+abbrev pub committed : CommitAnswer → List ℕ → List ℕ
+committed (C.Done count) old = set old 0 count
+committed (C.Refused e) old = old
+
+abbrev pub recorded : RecordAnswer → List ℕ → List ℕ
+recorded (D.Done s) old = set (set (set (set (set old 0 (s .draw)) 1 (s .level)) 2 (s .heard)) 3 (s .lost)) 4 (s .sent)
+recorded (D.Refused e) old = old

@@ -1,0 +1,297 @@
+// The engine and the plain machine, straight from document 01 and as simple as can be: a sorted map of held events, a heap of waiting ones.
+#![allow(dead_code)]
+use std::cmp::Reverse;
+use std::collections::{BTreeMap, BTreeSet, BinaryHeap};
+
+pub const H: u64 = 1_099_511_627_775;
+const LARGEST: u64 = 4_294_967_295;
+const POSTED: u64 = 65_535;
+
+#[derive(Clone, Copy, Debug)]
+pub struct Config {
+    pub parent: u16,
+    pub calm: u32,
+    pub spring: u32,
+    pub threshold: u32,
+    pub hop: u32,
+    pub noise: u32,
+    pub seed: u32,
+}
+
+#[derive(Clone, Copy, PartialEq, Eq, Debug)]
+pub struct State {
+    pub draw: u64,
+    pub level: u64,
+    pub heard: u64,
+    pub lost: u64,
+    pub sent: u64,
+}
+
+/// Time, target, source, number: the event order.
+pub type Key = (u64, u64, u64, u64);
+/// Kind and value.
+pub type Matter = (u64, u64);
+
+pub fn plan_bytes(line: &[Config]) -> Vec<u8> {
+    let n = line.len();
+    let mut bytes = (n as u16).to_le_bytes().to_vec();
+    for s in 0..n {
+        bytes.extend(((2 + 8 * n + 26 * s) as u32).to_le_bytes());
+        bytes.extend(26u32.to_le_bytes());
+    }
+    for c in line {
+        bytes.extend(c.parent.to_le_bytes());
+        for number in [c.calm, c.spring, c.threshold, c.hop, c.noise, c.seed] {
+            bytes.extend(number.to_le_bytes());
+        }
+    }
+    bytes
+}
+
+pub fn first_state(c: &Config) -> State {
+    State { draw: c.seed.into(), level: 0, heard: 0, lost: 0, sent: 0 }
+}
+
+/// What running an event does: the state after it, and its sends in order.
+#[inline]
+pub fn run_event(c: &Config, state: State, key: Key, matter: Matter) -> (State, [Option<(Key, Matter)>; 2]) {
+    let (time, station, ..) = key;
+    let mut after = state;
+    let mut sends = [None; 2];
+    let mut count = 0;
+    let mut send = |after: &mut State, at: u64, to: u64, what: Matter| {
+        if at <= H {
+            sends[count] = Some(((at, to, station, after.sent), what));
+            count += 1;
+            after.sent += 1;
+        }
+    };
+    match matter.0 {
+        1 if station > 0 => {
+            let period = if after.level >= c.threshold.into() { c.spring } else { c.calm };
+            send(&mut after, time + period as u64, station, (1, 0));
+            send(&mut after, time + c.hop as u64, c.parent.into(), (2, station));
+        }
+        2 => {
+            after.draw = 16_807 * after.draw % 2_147_483_647;
+            if after.draw <= c.noise.into() {
+                after.lost += 1;
+                send(&mut after, time + c.hop as u64, station, matter);
+            } else {
+                after.heard += 1;
+                if station > 0 {
+                    send(&mut after, time + c.hop as u64, c.parent.into(), matter);
+                }
+            }
+        }
+        3 => after.level = matter.1,
+        _ => {}
+    }
+    (after, sends)
+}
+
+/// The plain machine on a heap.
+pub struct Machine<'p> {
+    pub line: &'p [Config],
+    pub states: Vec<State>,
+    pub waiting: BinaryHeap<Reverse<(Key, Matter)>>,
+}
+
+impl<'p> Machine<'p> {
+    pub fn new(line: &'p [Config]) -> Machine<'p> {
+        Machine { line, states: line.iter().map(first_state).collect(), waiting: BinaryHeap::new() }
+    }
+
+    pub fn post(&mut self, key: Key, matter: Matter) {
+        self.waiting.push(Reverse((key, matter)));
+    }
+
+    /// Steps while an event before the time waits.
+    pub fn run(&mut self, until: u64, mut log: impl FnMut(Key, Matter)) {
+        while let Some(&Reverse((key, matter))) = self.waiting.peek() {
+            if key.0 >= until {
+                break;
+            }
+            self.waiting.pop();
+            let s = key.1 as usize;
+            let (after, sends) = run_event(&self.line[s], self.states[s], key, matter);
+            self.states[s] = after;
+            for send in sends.into_iter().flatten() {
+                self.waiting.push(Reverse(send));
+            }
+            log(key, matter);
+        }
+    }
+}
+
+struct Held {
+    matter: Matter,
+    run: Option<(State, Vec<Key>)>,
+}
+
+/// The engine by the rules of undo, remove and add.
+pub struct Engine {
+    pub line: Vec<Config>,
+    pub capacity: u64,
+    pub next: u64,
+    pub now: u64,
+    pub states: Vec<State>,
+    held: BTreeMap<Key, Held>,
+}
+
+pub fn entry(key: Key, matter: Matter) -> [u8; 24] {
+    let mut bytes = [0; 24];
+    bytes[..8].copy_from_slice(&key.0.to_le_bytes());
+    bytes[8..12].copy_from_slice(&(key.3 as u32).to_le_bytes());
+    bytes[12..16].copy_from_slice(&(matter.1 as u32).to_le_bytes());
+    bytes[16..18].copy_from_slice(&(key.1 as u16).to_le_bytes());
+    bytes[18..20].copy_from_slice(&(key.2 as u16).to_le_bytes());
+    bytes[20..].copy_from_slice(&(matter.0 as u32).to_le_bytes());
+    bytes
+}
+
+impl Engine {
+    pub fn open(line: &[Config], capacity: u64) -> Engine {
+        Engine { line: line.to_vec(), capacity, next: 0, now: 0, states: line.iter().map(first_state).collect(), held: BTreeMap::new() }
+    }
+
+    fn n(&self) -> u64 {
+        self.line.len() as u64
+    }
+
+    fn free(&self) -> u64 {
+        self.capacity - self.held.len() as u64
+    }
+
+    fn run_keys(&self) -> BTreeSet<Key> {
+        self.held.iter().filter(|(_, h)| h.run.is_some()).map(|(k, _)| *k).collect()
+    }
+
+    fn undone(&self, before: &BTreeSet<Key>) -> u64 {
+        before.difference(&self.run_keys()).count() as u64
+    }
+
+    fn undo(&mut self, key: Key) {
+        let (state, sends) = self.held.get_mut(&key).unwrap().run.take().unwrap();
+        self.states[key.1 as usize] = state;
+        for send in sends {
+            self.remove(send);
+        }
+    }
+
+    fn undo_later(&mut self, key: Key) {
+        while let Some(later) = self.held.range(key..).rev().find(|(k, h)| **k != key && k.1 == key.1 && h.run.is_some()).map(|(k, _)| *k) {
+            self.undo(later);
+        }
+    }
+
+    fn remove(&mut self, key: Key) {
+        if self.held[&key].run.is_some() {
+            self.undo_later(key);
+            self.undo(key);
+        }
+        self.held.remove(&key);
+    }
+
+    fn add(&mut self, key: Key, matter: Matter) {
+        self.undo_later(key);
+        self.held.insert(key, Held { matter, run: None });
+    }
+
+    pub fn post(&mut self, station: u64, time: u64, kind: u64, value: u64) -> Result<(u64, u64), u64> {
+        let suits = match kind {
+            1 => value == 0,
+            2 => value < self.n(),
+            3 => value <= LARGEST,
+            _ => false,
+        };
+        if station >= self.n() {
+            return Err(9);
+        }
+        if !suits {
+            return Err(10);
+        }
+        if time > H {
+            return Err(11);
+        }
+        if time < self.now {
+            return Err(12);
+        }
+        if self.next > LARGEST {
+            return Err(16);
+        }
+        if self.free() < 1 {
+            return Err(17);
+        }
+        let before = self.run_keys();
+        self.add((time, station, POSTED, self.next), (kind, value));
+        self.next += 1;
+        Ok((self.next - 1, self.undone(&before)))
+    }
+
+    pub fn retract(&mut self, number: u64) -> Result<u64, u64> {
+        let key = *self.held.keys().find(|k| k.2 == POSTED && k.3 == number).ok_or(13u64)?;
+        let before = self.run_keys();
+        self.remove(key);
+        Ok(self.undone(&before))
+    }
+
+    /// Each station of the lowest time.
+    pub fn lowest(&self) -> Vec<u64> {
+        let unrun: Vec<_> = self.held.iter().filter(|(_, h)| h.run.is_none()).map(|(k, _)| *k).collect();
+        let Some(least) = unrun.iter().map(|k| k.0).min() else { return vec![] };
+        unrun.iter().filter(|k| k.0 == least).map(|k| k.1).collect()
+    }
+
+    pub fn run(&mut self, station: u64) -> Result<(u64, u64), u64> {
+        if station >= self.n() {
+            return Err(9);
+        }
+        let s = station as usize;
+        let (key, matter) = self.held.iter().find(|(k, h)| k.1 == station && h.run.is_none()).map(|(k, h)| (*k, h.matter)).ok_or(14u64)?;
+        let (after, sends) = run_event(&self.line[s], self.states[s], key, matter);
+        if after.heard.max(after.lost).max(after.sent) > LARGEST {
+            return Err(16);
+        }
+        let sends: Vec<_> = sends.into_iter().flatten().collect();
+        if self.free() < sends.len() as u64 {
+            return Err(17);
+        }
+        let before = self.run_keys();
+        self.held.get_mut(&key).unwrap().run = Some((self.states[s], sends.iter().map(|(k, _)| *k).collect()));
+        self.states[s] = after;
+        for (k, m) in sends {
+            self.add(k, m);
+        }
+        Ok((station, self.undone(&before)))
+    }
+
+    pub fn commit(&mut self, time: u64, room: usize) -> Result<Vec<(Key, Matter)>, u64> {
+        if time > H + 1 {
+            return Err(11);
+        }
+        if time < self.now {
+            return Err(12);
+        }
+        if self.held.iter().any(|(k, h)| k.0 < time && h.run.is_none()) {
+            return Err(15);
+        }
+        let log: Vec<_> = self.held.iter().filter(|(k, _)| k.0 < time).map(|(k, h)| (*k, h.matter)).collect();
+        if room < 24 * log.len() {
+            return Err(18);
+        }
+        for (key, _) in &log {
+            self.held.remove(key);
+        }
+        self.now = time;
+        Ok(log)
+    }
+
+    pub fn record(&self, station: u64) -> Result<State, u64> {
+        if station >= self.n() {
+            return Err(9);
+        }
+        let first = self.held.iter().find(|(k, h)| k.1 == station && h.run.is_some());
+        Ok(first.map_or(self.states[station as usize], |(_, h)| h.run.as_ref().unwrap().0))
+    }
+}

@@ -1,0 +1,244 @@
+//! The engine against a plain machine on std's BinaryHeap that writes the same log, both in one run.
+//!
+//!     make benchmark [ROUNDS=5]
+//!
+//! Every figure is nanoseconds a committed event, the median of the rounds; in each round every machine of a row takes its turn. The engine runs lowest in batches and
+//! commits at every whole interval of simulated time that it can; a batch is 32 events. The heap steps to the same times and writes the same 24 bytes an event.
+use jambfennel::{Calendar, Engine, Matter};
+use std::hint::black_box;
+use std::time::Instant;
+
+#[path = "../../reference/mod.rs"]
+mod reference;
+use reference::{Config, Machine};
+
+struct Dice(u64);
+
+impl Dice {
+    fn below(&mut self, n: u64) -> u64 {
+        self.0 ^= self.0 << 13;
+        self.0 ^= self.0 >> 7;
+        self.0 ^= self.0 << 17;
+        self.0 % n
+    }
+}
+
+/// A line of n stations whose parents are `fan` to one, of which the last `readers` read every five minutes, committed every `interval` ms.
+#[derive(Clone, Copy)]
+struct Work {
+    n: u64,
+    fan: u64,
+    noise: u32,
+    readers: u64,
+    interval: u64,
+}
+
+const MINUTE: u64 = 60_000;
+const PERIOD: u64 = 300_000;
+
+impl Work {
+    fn line(&self) -> Vec<Config> {
+        (0..self.n)
+            .map(|s| Config {
+                parent: (s.saturating_sub(1) / self.fan) as u16,
+                calm: PERIOD as u32,
+                spring: MINUTE as u32,
+                threshold: 5_000,
+                hop: 250 + (s % 50) as u32,
+                noise: self.noise,
+                seed: 1_000 + 7 * s as u32,
+            })
+            .collect()
+    }
+
+    fn posts(&self) -> impl Iterator<Item = (u64, u64)> + '_ {
+        (0..self.readers).map(|k| (self.n - 1 - k, k * PERIOD / self.readers))
+    }
+}
+
+/// Committed events and the nanoseconds that they took.
+#[derive(Clone, Copy, Default)]
+struct Took {
+    events: u64,
+    ns: u64,
+    undone: u64,
+    ran: u64,
+}
+
+impl Took {
+    fn each(&self) -> f64 {
+        self.ns as f64 / self.events.max(1) as f64
+    }
+}
+
+/// The engine; late posts undo `percent` of the events that are run.
+fn engine(work: &Work, capacity: u64, width: u64, percent: u64, events: u64) -> Option<Took> {
+    let line = work.line();
+    let mut buffer = vec![0; Engine::bytes(line.len(), capacity as usize)];
+    let mut output = vec![0; 24 * capacity as usize];
+    let mut engine = Engine::open(&reference::plan_bytes(&line), width, capacity, &mut buffer).ok()?;
+    for (station, time) in work.posts() {
+        engine.post(station, time, Matter::Reading).ok()?;
+    }
+    let mut dice = Dice(7);
+    let (mut took, mut time) = (Took::default(), work.interval);
+    let start = Instant::now();
+    while took.events < events {
+        let mut stuck = true;
+        for _ in 0..32 {
+            match engine.run_lowest() {
+                Ok(run) => {
+                    took.ran += 1;
+                    took.undone += run.undone;
+                    stuck = false;
+                }
+                Err(_) => break,
+            }
+        }
+        if 100 * took.undone < percent * took.ran {
+            let at = time - work.interval + dice.below(work.interval);
+            if let Ok(post) = engine.post(work.n - 1 - dice.below(work.readers.min(8)), at, Matter::Level(1)) {
+                took.undone += post.undone;
+            }
+        }
+        while let Ok(log) = engine.commit(time, &mut output) {
+            took.events += log.len() as u64;
+            black_box(log.bytes());
+            time += work.interval;
+            stuck = false;
+            if took.events >= events {
+                break;
+            }
+        }
+        if stuck {
+            return None;
+        }
+    }
+    took.ns = start.elapsed().as_nanos() as u64;
+    Some(took)
+}
+
+fn heap(work: &Work, events: u64) -> Took {
+    let line = work.line();
+    let mut machine = Machine::new(&line);
+    for (k, (station, time)) in work.posts().enumerate() {
+        machine.post((time, station, 65_535, k as u64), (1, 0));
+    }
+    let mut output = Vec::with_capacity(24 * 100_000);
+    let (mut took, mut time) = (Took::default(), work.interval);
+    let start = Instant::now();
+    while took.events < events {
+        output.clear();
+        machine.run(time, |key, matter| output.extend_from_slice(&reference::entry(key, matter)));
+        took.events += output.len() as u64 / 24;
+        black_box(&output);
+        time += work.interval;
+    }
+    took.ns = start.elapsed().as_nanos() as u64;
+    took
+}
+
+/// The calendar alone: lowest, extract and register a cycle.
+fn calendar(n: u64, width: u64, cycles: u64) -> f64 {
+    let mut buffer = vec![0; Calendar::bytes(n as usize)];
+    let mut calendar = Calendar::open(n, width, &mut buffer).unwrap();
+    let mut dice = Dice(11);
+    for s in 0..n {
+        calendar.register(s, dice.below(PERIOD)).unwrap();
+    }
+    let start = Instant::now();
+    for k in 0..cycles {
+        let first = calendar.extract().unwrap();
+        calendar.register(first.station, first.time + 250 + dice.below(PERIOD)).unwrap();
+        if k % 64 == 0 {
+            calendar.advance(calendar.lowest().unwrap().time).unwrap();
+        }
+    }
+    start.elapsed().as_nanos() as f64 / cycles as f64
+}
+
+fn median(mut xs: Vec<f64>) -> f64 {
+    xs.sort_by(f64::total_cmp);
+    xs[xs.len() / 2]
+}
+
+fn medians<const N: usize>(rounds: usize, mut turn: impl FnMut(usize) -> Option<f64>) -> [Option<f64>; N] {
+    let mut all: [Vec<f64>; N] = std::array::from_fn(|_| vec![]);
+    for _ in 0..rounds {
+        for (k, column) in all.iter_mut().enumerate() {
+            if let Some(x) = turn(k) {
+                column.push(x);
+            }
+        }
+    }
+    all.map(|column| (!column.is_empty()).then(|| median(column)))
+}
+
+fn cell(x: Option<f64>) -> String {
+    x.map_or("-".into(), |x| format!("{x:.0}"))
+}
+
+fn ratio(x: Option<f64>, base: Option<f64>) -> String {
+    match (x, base) {
+        (Some(x), Some(base)) => format!("{:.2}", x / base),
+        _ => "-".into(),
+    }
+}
+
+/// One line alone, for a profiler: `valgrind --tool=callgrind benchmark profile`.
+fn profile() {
+    let work = Work { n: 256, fan: 4, noise: 107_374_182, readers: 255, interval: MINUTE };
+    let took = engine(&work, 4096, 64, 0, 50_000).unwrap();
+    println!("{} events, {:.0} ns each", took.events, took.each());
+}
+
+fn main() {
+    if std::env::args().nth(1).as_deref() == Some("profile") {
+        return profile();
+    }
+    let rounds = std::env::args().nth(1).map_or(5, |a| a.parse().expect("a number of rounds"));
+    let events = 200_000;
+    println!("| stations | shape | noise | capacity | interval | readers | engine | heap | engine / heap |\n|---|---|---|---|---|---|---|---|---|");
+    for n in [16, 64, 256] {
+        for (shape, fan) in [("chain", 1), ("tree of 4", 4)] {
+            for (share, noise) in [("0", 0), ("5 %", 107_374_182)] {
+                for capacity in [64, 512, 4096] {
+                    // what is run between two commits has to fit: fewer readers for few places, shorter intervals for long ways
+                    let hops = if fan == 1 { n } else { 4 };
+                    let readers = (n - 1).min(capacity / 4);
+                    let mut interval = MINUTE;
+                    while interval > 100 && readers * hops * interval / PERIOD > capacity / 4 {
+                        interval /= 2;
+                    }
+                    let work = Work { n, fan, noise, readers, interval };
+                    let [a, b] = medians(rounds, |k| if k == 0 { engine(&work, capacity, 64, 0, events).map(|t| t.each()) } else { Some(heap(&work, events).each()) });
+                    println!("| {n} | {shape} | {share} | {capacity} | {interval} | {readers} | {} | {} | {} |", cell(a), cell(b), ratio(a, b));
+                }
+            }
+        }
+    }
+    println!("\n| one line at | capacity 64 | 512 | 4096 | 4096 / 64 |\n|---|---|---|---|---|");
+    for (n, fan, shape) in [(16, 4, "16 stations, tree of 4"), (64, 4, "64 stations, tree of 4"), (256, 4, "256 stations, tree of 4"), (16, 1, "16 stations, chain")] {
+        let work = Work { n, fan, noise: 107_374_182, readers: 15, interval: 30_000 };
+        let [a, b, c] = medians(rounds, |k| engine(&work, [64, 512, 4096][k], 64, 0, events).map(|t| t.each()));
+        println!("| {shape}, 15 readers | {} | {} | {} | {} |", cell(a), cell(b), cell(c), ratio(c, a));
+    }
+    println!("\n| 256 stations, capacity 4096, noise 5 % | w 1 | 4 | 16 | 64 | 256 | 1024 | 4096 | heap |\n|---|---|---|---|---|---|---|---|---|");
+    for (shape, fan, interval) in [("tree of 4", 4, MINUTE), ("chain", 1, 7_500)] {
+        let work = Work { n: 256, fan, noise: 107_374_182, readers: 255, interval };
+        let row: [Option<f64>; 8] =
+            medians(rounds, |k| if k < 7 { engine(&work, 4096, 4u64.pow(k as u32), 0, events).map(|t| t.each()) } else { Some(heap(&work, events).each()) });
+        println!("| {shape} | {} |", row.map(cell).join(" | "));
+    }
+    println!("\n| late posts, 256 stations, capacity 4096 | none | undo 1 % | undo 10 % |\n|---|---|---|---|");
+    for (shape, fan, interval) in [("tree of 4", 4, MINUTE), ("chain", 1, 7_500)] {
+        let work = Work { n: 256, fan, noise: 107_374_182, readers: 255, interval };
+        let [a, b, c] = medians(rounds, |k| engine(&work, 4096, 64, [0, 1, 10][k], events).map(|t| t.each()));
+        println!("| {shape} | {} | {} | {} |", cell(a), cell(b), cell(c));
+    }
+    println!("\n| calendar alone, extract and register | w 1 | 64 | 4096 |\n|---|---|---|---|");
+    for n in [16, 64, 256] {
+        let [a, b, c] = medians(rounds, |k| Some(calendar(n, [1, 64, 4096][k], 1_000_000)));
+        println!("| {n} stations | {} | {} | {} |", cell(a), cell(b), cell(c));
+    }
+}

@@ -1,0 +1,264 @@
+//! The engine against a simple one written from the paper alone, call by call; then every call on damaged buffers.
+//!
+//!     make fuzz [CASES=2000] [SEED=1]
+//!
+//! Each case is a drawn line of stations and a drawn list of calls. Answers, logs and records are compared, and at the end the joined logs and the records with the plain
+//! machine. A difference prints the case's seed. `fuzz stack=64` runs the deepest rollback in a stack of so many KiB.
+use jambfennel::{Engine, Refusal};
+
+#[path = "../../reference/mod.rs"]
+mod reference;
+use reference::Config;
+
+struct Dice(u64);
+
+impl Dice {
+    fn below(&mut self, n: u64) -> u64 {
+        self.0 ^= self.0 << 13;
+        self.0 ^= self.0 >> 7;
+        self.0 ^= self.0 << 17;
+        self.0 % n
+    }
+
+    fn one_in(&mut self, n: u64) -> bool {
+        self.below(n) == 0
+    }
+
+    fn pick<T: Copy>(&mut self, from: &[T]) -> T {
+        from[self.below(from.len() as u64) as usize]
+    }
+}
+
+fn line(dice: &mut Dice) -> Vec<Config> {
+    let most = dice.pick(&[2, 4, 8, 32, 256]);
+    let n = 1 + dice.below(most);
+    let depth = dice.pick(&[1, 2, 4, 1000]);
+    let noise = dice.pick(&[0, 100_000_000, 1_000_000_000, 2_147_483_646]);
+    (0..n)
+        .map(|s| Config {
+            parent: s.saturating_sub(1 + dice.below(depth)) as u16,
+            calm: 1 + dice.below(80) as u32,
+            spring: 1 + dice.below(20) as u32,
+            threshold: dice.below(10) as u32,
+            hop: 1 + dice.below(30) as u32,
+            noise,
+            seed: 1 + dice.below(2_147_483_646) as u32,
+        })
+        .collect()
+}
+
+fn number<T>(r: Result<T, Refusal>) -> Result<T, u64> {
+    r.map_err(|refusal| refusal.number)
+}
+
+// One list of calls. The buffer stands between guard bytes.
+fn compare(seed: u64) -> u64 {
+    let mut dice = Dice(seed.wrapping_mul(0x9E37_79B9_7F4A_7C15) | 1);
+    let line = line(&mut dice);
+    let n = line.len() as u64;
+    let capacity = dice.pick(&[2, 3, 16, 64, 300]);
+    let width = dice.pick(&[1, 3, 64, 1000, 1_048_576]);
+    let size = Engine::bytes(line.len(), capacity as usize) + dice.below(3) as usize * 100;
+    let mut all = vec![0xA5u8; size + 64];
+    all.iter_mut().for_each(|b| *b = dice.below(256) as u8);
+    let guards = (all[..32].to_vec(), all[size + 32..].to_vec());
+    let buffer = &mut all[32..size + 32];
+    let plan = reference::plan_bytes(&line);
+    let mut engine = Engine::open(&plan, width, capacity, buffer).unwrap_or_else(|e| panic!("case {seed}: {e}"));
+    let mut model = reference::Engine::open(&line, capacity);
+    let (mut posts, mut gone, mut logs) = (vec![], vec![], vec![]);
+    let start = dice.pick(&[0, 0, 0, reference::H - 400]);
+    let mut calls = 0;
+    for _ in 0..60 + dice.below(300) {
+        calls += 1;
+        let station = dice.below(n + n / 8 + 1);
+        let time = model.now.max(start) + dice.below(100);
+        match dice.below(100) {
+            0..=17 => {
+                let kind = dice.pick(&[1, 2, 2, 3, 3, 0, 4]);
+                let value = match kind {
+                    1 => u64::from(dice.one_in(9)),
+                    2 => dice.below(n + 1),
+                    _ => dice.below(12),
+                };
+                let time = if dice.one_in(12) { dice.pick(&[0, reference::H, reference::H + 1, u64::MAX]) } else { time };
+                let a = number(engine.post_numbers(station, time, kind, value)).map(|p| (p.number, p.undone));
+                assert_eq!(a, model.post(station, time, kind, value), "case {seed}, call {calls}: post {station} {time} {kind} {value}");
+                if let Ok((number, _)) = a {
+                    posts.push(((time, station, 65_535, number), (kind, value)));
+                }
+            }
+            18..=25 => {
+                let k = dice.below(model.next + 2);
+                let a = number(engine.retract(k));
+                assert_eq!(a, model.retract(k), "case {seed}, call {calls}: retract {k}");
+                if a.is_ok() {
+                    gone.push(k);
+                }
+            }
+            26..=50 => {
+                let a = number(engine.run_station(station)).map(|r| (r.station, r.undone));
+                assert_eq!(a, model.run(station), "case {seed}, call {calls}: run {station}");
+            }
+            51..=78 => {
+                // which of several stations of the lowest time is free: it is the one that was answered, or, where the run is refused, one of them
+                let lowest = model.lowest();
+                let a = number(engine.run_lowest()).map(|r| (r.station, r.undone));
+                match a {
+                    Ok((s, _)) => {
+                        assert!(lowest.contains(&s), "case {seed}, call {calls}: run lowest named {s} of {lowest:?}");
+                        assert_eq!(a, model.run(s), "case {seed}, call {calls}: run lowest");
+                    }
+                    Err(14) => assert!(lowest.is_empty(), "case {seed}, call {calls}: 14 with {lowest:?}"),
+                    Err(e) => assert_eq!(model.run(lowest[0]), Err(e), "case {seed}, call {calls}: run lowest"),
+                }
+            }
+            79..=92 => {
+                let time = if dice.one_in(3) { time } else { model.now + dice.below(20) };
+                let mut output = vec![0x5Au8; dice.pick(&[0, 24, 240, 24 * 300])];
+                let before = output.clone();
+                let want = model.commit(time, output.len());
+                match number(engine.commit(time, &mut output).map(|log| log.bytes().len())) {
+                    Ok(len) => {
+                        let log = want.unwrap_or_else(|e| panic!("case {seed}, call {calls}: commit {time} accepted for {e}"));
+                        let bytes: Vec<u8> = log.iter().flat_map(|(k, m)| reference::entry(*k, *m)).collect();
+                        assert!(bytes == output[..len] && output[len..] == before[len..], "case {seed}, call {calls}: log of commit {time}");
+                        logs.extend(bytes);
+                    }
+                    Err(e) => {
+                        assert_eq!(want.map(|_| ()), Err(e), "case {seed}, call {calls}: commit {time}");
+                        assert!(output == before, "case {seed}, call {calls}: a refused commit wrote");
+                    }
+                }
+            }
+            _ => {
+                let a = number(engine.record(station)).map(|s| [s.draw, s.level, s.heard, s.lost, s.sent].map(u64::from));
+                let want = model.record(station).map(|s| [s.draw, s.level, s.heard, s.lost, s.sent]);
+                assert_eq!(a, want, "case {seed}, call {calls}: record {station}");
+            }
+        }
+    }
+    // demand 3
+    let mut machine = reference::Machine::new(&line);
+    posts.iter().filter(|(k, _)| !gone.contains(&k.3)).for_each(|(k, m)| machine.post(*k, *m));
+    let mut log = vec![];
+    machine.run(model.now, |k, m| log.extend(reference::entry(k, m)));
+    assert!(log == logs, "case {seed}: the joined logs are not the machine's");
+    for s in 0..n {
+        let a = engine.record(s).map(|s| [s.draw, s.level, s.heard, s.lost, s.sent].map(u64::from)).unwrap();
+        let want = machine.states[s as usize];
+        assert_eq!(a, [want.draw, want.level, want.heard, want.lost, want.sent], "case {seed}: record {s}");
+    }
+    assert!(guards == (all[..32].to_vec(), all[size + 32..].to_vec()), "case {seed}: a byte outside the buffer");
+    calls
+}
+
+// Every call on a buffer with bytes that no engine has left: it ends, stays inside, and a refusal changes nothing.
+fn damage(seed: u64) -> u64 {
+    let mut dice = Dice(seed.wrapping_mul(0xD134_2543_DE82_EF95) | 1);
+    let line = line(&mut dice);
+    let capacity = dice.pick(&[2, 16, 64]);
+    let size = Engine::bytes(line.len(), capacity);
+    let mut all = vec![0u8; size + 64];
+    let plan = reference::plan_bytes(&line);
+    {
+        let mut engine = Engine::open(&plan, 64, capacity as u64, &mut all[32..size + 32]).unwrap();
+        for _ in 0..40 {
+            let _ = engine.post_numbers(dice.below(line.len() as u64), dice.below(200), 1 + dice.below(3), 0);
+            let _ = engine.run_lowest();
+            let _ = engine.run_station(dice.below(line.len() as u64));
+        }
+    }
+    match dice.below(4) {
+        0 => all[32..size + 32].iter_mut().for_each(|b| *b = dice.below(256) as u8),
+        1 => {
+            // garbage behind a sound header
+            let from = 32 + 64 + dice.below(size as u64 - 64) as usize;
+            all[from..size + 32].iter_mut().for_each(|b| *b = dice.below(256) as u8);
+        }
+        2 => {
+            // small numbers in the links and slots, so that they lead somewhere
+            let from = 32 + 32_832 + 64 * line.len();
+            all[from..size + 32].iter_mut().for_each(|b| *b = if dice.one_in(2) { 0 } else { dice.below(8) as u8 });
+        }
+        _ => {
+            for _ in 0..1 + dice.below(20) {
+                let at = 32 + dice.below(size as u64) as usize;
+                all[at] ^= 1 << dice.below(8);
+            }
+        }
+    }
+    let cut = if dice.one_in(8) { dice.below(size as u64) as usize } else { size };
+    let mut calls = 0;
+    for _ in 0..30 {
+        calls += 1;
+        let before = all.clone();
+        let mut output = vec![0u8; dice.pick(&[0, 24, 24 * 64])];
+        let kept = output.clone();
+        let mut engine = Engine::resume(&mut all[32..cut + 32]);
+        let number = dice.pick(&[0, 1, 2, 5, 100, 255, 256, 65_535, reference::H, u64::MAX]);
+        let refused = match dice.below(6) {
+            0 => engine.post_numbers(number, dice.below(300), 1 + dice.below(3), 0).is_err(),
+            1 => engine.retract(number).is_err(),
+            2 => engine.run_station(number).is_err(),
+            3 => engine.run_lowest().is_err(),
+            4 => engine.commit(number, &mut output).is_err(),
+            _ => engine.record(number).is_err() || true,
+        };
+        if refused {
+            assert!(before == all && output == kept, "case {seed}: a refused call on damaged bytes changed some");
+        }
+        assert!(before[..32] == all[..32] && before[cut + 32..] == all[cut + 32..], "case {seed}: a byte outside the buffer");
+    }
+    calls
+}
+
+// The deepest rollback that there is: a frame has gone through 255 hops, and a level before it takes all of them back. On a sound buffer, and on one whose stations'
+// numbers were damaged so that every hop goes to the same place.
+fn cascade() -> u64 {
+    let line: Vec<Config> = (0..256u32)
+        .map(|s| Config { parent: s.saturating_sub(1) as u16, calm: 1000, spring: 1000, threshold: 0, hop: 1, noise: 0, seed: 1 + s })
+        .collect();
+    let size = Engine::bytes(256, 4096);
+    let mut buffer = vec![0; size];
+    let mut engine = Engine::open(&reference::plan_bytes(&line), 64, 4096, &mut buffer).unwrap();
+    engine.post_numbers(255, 100, 2, 255).unwrap();
+    while engine.run_lowest().is_ok() {}
+    let undone = engine.post_numbers(255, 50, 3, 7).unwrap().undone;
+    assert_eq!(undone, 256, "the whole way is undone");
+    // the same on slots that were damaged one by one
+    while engine.run_lowest().is_ok() {}
+    let sound = buffer.clone();
+    let mut dice = Dice(5);
+    for _ in 0..2_000 {
+        buffer.copy_from_slice(&sound);
+        for _ in 0..1 + dice.below(400) {
+            let at = 32_832 + 192 * 256 + dice.below(64 * 300) as usize;
+            buffer[at] = if dice.one_in(2) { dice.below(4) as u8 } else { dice.below(256) as u8 };
+        }
+        let mut engine = Engine::resume(&mut buffer);
+        let _ = engine.post_numbers(255, 60, 3, 7);
+        let _ = engine.retract(0);
+        let _ = engine.retract(1);
+    }
+    undone
+}
+
+fn in_stack<T: Send + 'static>(kib: usize, f: impl FnOnce() -> T + Send + 'static) -> T {
+    std::thread::Builder::new().stack_size(1024 * kib).spawn(f).unwrap().join().expect("the thread ends")
+}
+
+fn main() {
+    if let Some(kib) = std::env::args().nth(1).and_then(|a| a.strip_prefix("stack=").and_then(|k| k.parse().ok())) {
+        println!("a rollback of {} events in a stack of {kib} KiB", in_stack(kib, cascade));
+        return;
+    }
+    let arguments: Vec<u64> = std::env::args().skip(1).map(|a| a.parse().expect("a number")).collect();
+    let cases = arguments.first().copied().unwrap_or(2_000);
+    let seed = arguments.get(1).copied().unwrap_or(1);
+    let calls: u64 = (seed..seed + cases).map(compare).sum();
+    println!("{cases} lists, {calls} calls: answers, logs and records as in the simple engine and the plain machine");
+    let calls: u64 = (seed..seed + cases).map(damage).sum();
+    println!("{cases} damaged buffers, {calls} calls: each ended, stayed in its buffer, and changed nothing where it was refused");
+    println!("a rollback of {} events, and 2000 damaged ones, in a stack of 256 KiB", in_stack(256, cascade));
+}

@@ -1,0 +1,55 @@
+//! The calendar by itself: which station has the lowest time.
+use crate::{calls, Refusal};
+
+/// A calendar on a lent buffer.
+#[derive(Debug)]
+pub struct Calendar<'b> {
+    bytes: &'b mut [u8],
+}
+
+/// A registered station of the lowest time.
+#[derive(Clone, Copy, PartialEq, Eq, Debug)]
+pub struct Lowest {
+    pub time: u64,
+    pub station: u64,
+}
+
+impl<'b> Calendar<'b> {
+    /// How many bytes are enough for so many stations.
+    pub const fn bytes(stations: usize) -> usize {
+        32_768 + 64 * stations
+    }
+
+    /// Opens a calendar without registered stations, with its floor at 0. Refusals: 6, 7.
+    pub fn open(stations: u64, width: u64, buffer: &'b mut [u8]) -> Result<Calendar<'b>, Refusal> {
+        calls::open_calendar(stations, width, buffer)?;
+        Ok(Calendar { bytes: buffer })
+    }
+
+    /// Registers a station, or moves it. Refusals: 9, 11, 12.
+    pub fn register(&mut self, station: u64, time: u64) -> Result<(), Refusal> {
+        calls::register(self.bytes, station, time)
+    }
+
+    /// Takes a station out, where it is registered. Refusal: 9.
+    pub fn unregister(&mut self, station: u64) -> Result<(), Refusal> {
+        calls::unregister(self.bytes, station)
+    }
+
+    /// A station of the lowest time. Refusal: 14.
+    pub fn lowest(&self) -> Result<Lowest, Refusal> {
+        let [time, station] = calls::lowest(self.bytes)?;
+        Ok(Lowest { time, station })
+    }
+
+    /// The same, and it is taken out. Refusal: 14.
+    pub fn extract(&mut self) -> Result<Lowest, Refusal> {
+        let [time, station] = calls::extract(self.bytes)?;
+        Ok(Lowest { time, station })
+    }
+
+    /// Raises the floor. Refusals: 11, 12, 15.
+    pub fn advance(&mut self, floor: u64) -> Result<(), Refusal> {
+        calls::advance(self.bytes, floor)
+    }
+}

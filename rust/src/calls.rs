@@ -1,0 +1,86 @@
+// The proved calls. A slice is a pointer and a length there; the number returned is 0 where the call is accepted, else its refusal's. This is the only file with
+// unsafe code: each length is its slice's own, and no call keeps a pointer.
+use crate::{refusal, Refusal};
+
+extern "C" {
+    fn engine_open(plan: *const u8, plan_len: usize, width: u64, capacity: u64, b: *mut u8, len: usize, at: *mut [u64; 2]) -> u64;
+    fn engine_post(b: *mut u8, len: usize, station: u64, time: u64, kind: u64, value: u64, at: *mut [u64; 2]) -> u64;
+    fn engine_retract(b: *mut u8, len: usize, number: u64, at: *mut [u64; 2]) -> u64;
+    fn engine_run_station(b: *mut u8, len: usize, station: u64, at: *mut [u64; 2]) -> u64;
+    fn engine_run_lowest(b: *mut u8, len: usize, at: *mut [u64; 2]) -> u64;
+    fn engine_commit(b: *mut u8, len: usize, time: u64, out: *mut u8, out_len: usize, at: *mut [u64; 2]) -> u64;
+    fn engine_record(b: *const u8, len: usize, station: u64, at: *mut [u64; 5]) -> u64;
+    fn calendar_open(n: u64, width: u64, b: *mut u8, len: usize) -> u64;
+    fn calendar_register(b: *mut u8, len: usize, station: u64, time: u64) -> u64;
+    fn calendar_unregister(b: *mut u8, len: usize, station: u64) -> u64;
+    fn calendar_lowest(b: *const u8, len: usize, at: *mut [u64; 2]) -> u64;
+    fn calendar_extract(b: *mut u8, len: usize, at: *mut [u64; 2]) -> u64;
+    fn calendar_advance(b: *mut u8, len: usize, floor: u64) -> u64;
+}
+
+fn answer<const N: usize>(call: impl FnOnce(*mut [u64; N]) -> u64) -> Result<[u64; N], Refusal> {
+    let mut at = [0; N];
+    match call(&mut at) {
+        0 => Ok(at),
+        code => Err(refusal(code, at[0])),
+    }
+}
+
+fn done(code: u64) -> Result<(), Refusal> {
+    match code {
+        0 => Ok(()),
+        code => Err(refusal(code, 0)),
+    }
+}
+
+pub fn open(plan: &[u8], width: u64, capacity: u64, b: &mut [u8]) -> Result<[u64; 2], Refusal> {
+    answer(|at| unsafe { engine_open(plan.as_ptr(), plan.len(), width, capacity, b.as_mut_ptr(), b.len(), at) })
+}
+
+pub fn post(b: &mut [u8], station: u64, time: u64, kind: u64, value: u64) -> Result<[u64; 2], Refusal> {
+    answer(|at| unsafe { engine_post(b.as_mut_ptr(), b.len(), station, time, kind, value, at) })
+}
+
+pub fn retract(b: &mut [u8], number: u64) -> Result<[u64; 2], Refusal> {
+    answer(|at| unsafe { engine_retract(b.as_mut_ptr(), b.len(), number, at) })
+}
+
+pub fn run_station(b: &mut [u8], station: u64) -> Result<[u64; 2], Refusal> {
+    answer(|at| unsafe { engine_run_station(b.as_mut_ptr(), b.len(), station, at) })
+}
+
+pub fn run_lowest(b: &mut [u8]) -> Result<[u64; 2], Refusal> {
+    answer(|at| unsafe { engine_run_lowest(b.as_mut_ptr(), b.len(), at) })
+}
+
+pub fn commit(b: &mut [u8], time: u64, out: &mut [u8]) -> Result<[u64; 2], Refusal> {
+    answer(|at| unsafe { engine_commit(b.as_mut_ptr(), b.len(), time, out.as_mut_ptr(), out.len(), at) })
+}
+
+pub fn record(b: &[u8], station: u64) -> Result<[u64; 5], Refusal> {
+    answer(|at| unsafe { engine_record(b.as_ptr(), b.len(), station, at) })
+}
+
+pub fn open_calendar(n: u64, width: u64, b: &mut [u8]) -> Result<(), Refusal> {
+    done(unsafe { calendar_open(n, width, b.as_mut_ptr(), b.len()) })
+}
+
+pub fn register(b: &mut [u8], station: u64, time: u64) -> Result<(), Refusal> {
+    done(unsafe { calendar_register(b.as_mut_ptr(), b.len(), station, time) })
+}
+
+pub fn unregister(b: &mut [u8], station: u64) -> Result<(), Refusal> {
+    done(unsafe { calendar_unregister(b.as_mut_ptr(), b.len(), station) })
+}
+
+pub fn lowest(b: &[u8]) -> Result<[u64; 2], Refusal> {
+    answer(|at| unsafe { calendar_lowest(b.as_ptr(), b.len(), at) })
+}
+
+pub fn extract(b: &mut [u8]) -> Result<[u64; 2], Refusal> {
+    answer(|at| unsafe { calendar_extract(b.as_mut_ptr(), b.len(), at) })
+}
+
+pub fn advance(b: &mut [u8], floor: u64) -> Result<(), Refusal> {
+    done(unsafe { calendar_advance(b.as_mut_ptr(), b.len(), floor) })
+}
