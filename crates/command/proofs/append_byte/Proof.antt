@@ -1,0 +1,24 @@
+-- A byte is stored where there is room.
+use native.Mathlib.Omega.{arith}
+use borrow.Author.Needs.{needs}
+use Rattle.command.proofs.Appending.{one-byte, no-room}
+use Rattle.command.proofs.append_byte.Statement.{statement}
+use Rattle.command.proofs.append_byte.Tie as tie
+
+slice-write-out : tie.Need-slice-write-out
+slice-write-out c = search needs
+
+add-result : tie.Need-add-result
+add-result c = search needs
+
+same-length : tie.Need-same-length
+same-length c = search needs
+
+returns : tie.Need-returns
+returns c = one-byte _ _ _ (c .if1 .taken)
+
+returns-2 : tie.Need-returns-2
+returns-2 c = let l = c .if1 .left in no-room _ _ _ _ (λ room. omega arith)
+
+pub append-byte-spec : {M : Type 1} → statement M
+append-byte-spec = tie.close (tie.spec slice-write-out add-result same-length returns returns-2)

@@ -1,0 +1,87 @@
+-- The word says which form a line can have, and without one of the four words it has none.
+use borrow.Author.Needs.{needs}
+use Rattle.command.proofs.Accepting.{refuses-words}
+use Rattle.command.proofs.parse.Statement.{statement}
+use Rattle.command.proofs.parse.Tie as tie
+
+slice-aggregate-begins : tie.Need-slice-aggregate-begins
+slice-aggregate-begins c = search needs
+
+begins-requires : tie.Need-begins-requires
+begins-requires c κs = search needs
+
+parse-post-requires : tie.Need-parse-post-requires
+parse-post-requires c κs = c .before .begins .ensures .begun (c .if1 .taken)
+
+returns : tie.Need-returns
+returns c = search needs
+
+slice-aggregate-begins-2 : tie.Need-slice-aggregate-begins-2
+slice-aggregate-begins-2 c = search needs
+
+begins-requires-2 : tie.Need-begins-requires-2
+begins-requires-2 c κs = search needs
+
+parse-retract-requires : tie.Need-parse-retract-requires
+parse-retract-requires c κs = c .before .begins2 .ensures .begun (c .if2 .taken)
+
+returns-2 : tie.Need-returns-2
+returns-2 c = search needs
+
+slice-aggregate-begins-3 : tie.Need-slice-aggregate-begins-3
+slice-aggregate-begins-3 c = search needs
+
+begins-requires-3 : tie.Need-begins-requires-3
+begins-requires-3 c κs = search needs
+
+parse-run-requires : tie.Need-parse-run-requires
+parse-run-requires c κs = c .before .begins3 .ensures .begun (c .if3 .taken)
+
+returns-3 : tie.Need-returns-3
+returns-3 c = search needs
+
+slice-aggregate-begins-4 : tie.Need-slice-aggregate-begins-4
+slice-aggregate-begins-4 c = search needs
+
+begins-requires-4 : tie.Need-begins-requires-4
+begins-requires-4 c κs = search needs
+
+parse-commit-requires : tie.Need-parse-commit-requires
+parse-commit-requires c κs = c .before .begins4 .ensures .begun (c .if4 .taken)
+
+returns-4 : tie.Need-returns-4
+returns-4 c = search needs
+
+returns-5 : tie.Need-returns-5
+returns-5 c =
+    let at-if3 = c .before .before .before in
+    let at-begins3 = at-if3 .before in
+    let at-if2 = at-begins3 .before .before in
+    let at-begins2 = at-if2 .before in
+    let at-if1 = at-begins2 .before .before in
+    let at-begins = at-if1 .before in
+    refuses-words _ (at-begins .begins .ensures .other (at-if1 .if1 .left)) (at-begins2 .begins2 .ensures .other (at-if2 .if2 .left))
+    (at-begins3 .begins3 .ensures .other (at-if3 .if3 .left))
+    (c .before .begins4 .ensures .other (c .if4 .left))
+
+pub parse-spec : {M : Type 1} → statement M
+parse-spec =
+    tie.close
+    (tie.spec
+    slice-aggregate-begins
+    begins-requires
+    parse-post-requires
+    returns
+    slice-aggregate-begins-2
+    begins-requires-2
+    parse-retract-requires
+    returns-2
+    slice-aggregate-begins-3
+    begins-requires-3
+    parse-run-requires
+    returns-3
+    slice-aggregate-begins-4
+    begins-requires-4
+    parse-commit-requires
+    returns-4
+    returns-5)

@@ -1,0 +1,28 @@
+-- The line is the word retract with one number behind it, or it is refused.
+use borrow.Author.Needs.{needs}
+use Rattle.command.proofs.Accepting.{refuses-retract, takes-retract}
+use Rattle.command.proofs.Cases.{absent}
+use Rattle.command.proofs.parse_retract.Statement.{statement}
+use Rattle.command.proofs.parse_retract.Tie as tie
+
+last-number-requires : tie.Need-last-number-requires
+last-number-requires c κs = search needs
+
+enum-known-number : tie.Need-enum-known-number
+enum-known-number c = search needs
+
+enum-told : tie.Need-enum-told
+enum-told c = search needs
+
+returns : tie.Need-returns
+returns c = refuses-retract _ (c .before .before .before .before .pre) (c .before .before .last-number .ensures .absent (absent _ (c .before .match .keys2)))
+
+returns-2 : tie.Need-returns-2
+returns-2 c =
+    let at-last-number = c .before .before .before in
+    let start = at-last-number .before .before in
+    let h = at-last-number .last-number .ensures .found _ _ (c .before .number .given .1) in takes-retract _ (start .pre) _ (h .0) (h .1)
+
+pub parse-retract-spec : {M : Type 1} → statement M
+parse-retract-spec =
+    tie.close (tie.spec last-number-requires enum-known-number enum-told returns returns-2)
