@@ -1,0 +1,5 @@
+// The bench program: plan.bin and command lines in, answers out.
+
+fn main() {
+    console::serve(b"plan.bin");
+}
