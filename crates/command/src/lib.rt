@@ -1,8 +1,8 @@
 // The command lines of the bench, and the lines of their answers.
 
 ghost use mathlib.Core.Path.{_≡_};
-ghost use mathlib.Core.List.{List, [], _∷_, _++_};
-ghost use lib.ListN.{length, take, drop};
+ghost use mathlib.Core.List.{[], _∷_, _++_};
+ghost use lib.ListN.{length, drop};
 ghost use Rattle.command.specs.Decimal.{decimal};
 ghost use Rattle.command.specs.Numeral.{count, total, totalOf};
 ghost use Rattle.command.specs.Lines.{post, retract, run, commit, behind, outputOf, entryLine};

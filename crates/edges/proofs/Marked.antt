@@ -1,10 +1,10 @@
 -- Each marked edge is computed from the definitions, or is a law of its crate.
 use mathlib.Core.Path.{_≡_, refl}
 use mathlib.Core.Bool.{Bool, true, false, cond}
-use mathlib.Core.List.{List, []}
-use Prim.Native.Nat.{ℕ, suc, _+_, _≤_, _<_}
+use mathlib.Core.List.{[]}
+use Prim.Native.Nat.{ℕ, suc, _+_, _≤_}
 use native.Mathlib.Omega.{arith}
-use lib.Dec.{T, leb, eqb, leb→le}
+use lib.Dec.{leb, eqb, leb→le}
 use Rattle.refusal.specs.Tests.{horizon}
 use Rattle.generator.specs.Draw.{nextDraw}
 use Rattle.generator.proofs.Edges.{after-1, after-16807, after-2147483646}

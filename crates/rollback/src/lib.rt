@@ -6,7 +6,7 @@
 // undone), so they are at most n deep.
 
 ghost use mathlib.Core.Path.{_≡_};
-ghost use Prim.Native.Nat.{_+_, _*_, _≤_, _<_};
+ghost use Prim.Native.Nat.{_+_, _≤_, _<_};
 ghost use Rattle.queue.specs.Count.{runsBelow};
 ghost use Rattle.queue.specs.Steps.{Behind};
 ghost use Rattle.rollback.specs.Steps.{Undoes, UndoesFrom, RemovesBelow, Removes, Adds};
