@@ -218,10 +218,11 @@ fn main() {
         }
     }
     println!("\n| one line at | capacity 64 | 512 | 4096 | 4096 / 64 |\n|---|---|---|---|---|");
-    for (n, fan, shape) in [(16, 4, "16 stations, tree of 4"), (64, 4, "64 stations, tree of 4"), (256, 4, "256 stations, tree of 4"), (16, 1, "16 stations, chain")] {
-        let work = Work { n, fan, noise: 107_374_182, readers: 15, interval: 30_000 };
+    for (n, fan, shape) in [(2, 1, "2 stations"), (16, 4, "16, tree of 4"), (32, 4, "32, tree of 4"), (64, 4, "64, tree of 4"), (256, 4, "256, tree of 4"), (16, 1, "16, chain")] {
+        let readers = 15.min(n - 1);
+        let work = Work { n, fan, noise: 107_374_182, readers, interval: 30_000 };
         let [a, b, c] = medians(rounds, |k| engine(&work, [64, 512, 4096][k], 64, 0, events).map(|t| t.each()));
-        println!("| {shape}, 15 readers | {} | {} | {} | {} |", cell(a), cell(b), cell(c), ratio(c, a));
+        println!("| {shape}, {readers} reading | {} | {} | {} | {} |", cell(a), cell(b), cell(c), ratio(c, a));
     }
     println!("\n| 256 stations, capacity 4096, noise 5 % | w 1 | 4 | 16 | 64 | 256 | 1024 | 4096 | heap |\n|---|---|---|---|---|---|---|---|---|");
     for (shape, fan, interval) in [("tree of 4", 4, MINUTE), ("chain", 1, 7_500)] {
