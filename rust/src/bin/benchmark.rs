@@ -185,16 +185,18 @@ fn ratio(x: Option<f64>, base: Option<f64>) -> String {
     }
 }
 
-/// One line alone, for a profiler: `valgrind --tool=callgrind benchmark profile`.
-fn profile() {
+/// One line alone, for a profiler: `valgrind --tool=callgrind benchmark profile engine 50000`, or heap.
+fn profile(which: &str, events: u64) {
     let work = Work { n: 256, fan: 4, noise: 107_374_182, readers: 255, interval: MINUTE };
-    let took = engine(&work, 4096, 64, 0, 50_000).unwrap();
+    let took = if which == "heap" { heap(&work, events) } else { engine(&work, 4096, 64, 0, events).unwrap() };
     println!("{} events, {:.0} ns each", took.events, took.each());
 }
 
 fn main() {
-    if std::env::args().nth(1).as_deref() == Some("profile") {
-        return profile();
+    let words: Vec<String> = std::env::args().collect();
+    if let [_, profiled, which, events] = &words[..] {
+        assert_eq!(profiled, "profile");
+        return profile(which, events.parse().expect("a number of events"));
     }
     let rounds = std::env::args().nth(1).map_or(5, |a| a.parse().expect("a number of rounds"));
     let events = 200_000;
