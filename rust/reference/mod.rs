@@ -32,6 +32,26 @@ pub type Key = (u64, u64, u64, u64);
 /// Kind and value.
 pub type Matter = (u64, u64);
 
+/// A small generator of numbers for the tests.
+pub struct Dice(pub u64);
+
+impl Dice {
+    pub fn below(&mut self, n: u64) -> u64 {
+        self.0 ^= self.0 << 13;
+        self.0 ^= self.0 >> 7;
+        self.0 ^= self.0 << 17;
+        self.0 % n
+    }
+
+    pub fn one_in(&mut self, n: u64) -> bool {
+        self.below(n) == 0
+    }
+
+    pub fn pick<T: Copy>(&mut self, from: &[T]) -> T {
+        from[self.below(from.len() as u64) as usize]
+    }
+}
+
 pub fn plan_bytes(line: &[Config]) -> Vec<u8> {
     let n = line.len();
     let mut bytes = (n as u16).to_le_bytes().to_vec();

@@ -10,18 +10,7 @@ use std::time::Instant;
 
 #[path = "../../reference/mod.rs"]
 mod reference;
-use reference::{Config, Machine};
-
-struct Dice(u64);
-
-impl Dice {
-    fn below(&mut self, n: u64) -> u64 {
-        self.0 ^= self.0 << 13;
-        self.0 ^= self.0 >> 7;
-        self.0 ^= self.0 << 17;
-        self.0 % n
-    }
-}
+use reference::{Config, Dice, Machine};
 
 /// A line of n stations whose parents are `fan` to one, of which the last `readers` read every five minutes, committed every `interval` ms.
 #[derive(Clone, Copy)]

@@ -8,26 +8,7 @@ use jambfennel::{Engine, Refusal};
 
 #[path = "../../reference/mod.rs"]
 mod reference;
-use reference::Config;
-
-struct Dice(u64);
-
-impl Dice {
-    fn below(&mut self, n: u64) -> u64 {
-        self.0 ^= self.0 << 13;
-        self.0 ^= self.0 >> 7;
-        self.0 ^= self.0 << 17;
-        self.0 % n
-    }
-
-    fn one_in(&mut self, n: u64) -> bool {
-        self.below(n) == 0
-    }
-
-    fn pick<T: Copy>(&mut self, from: &[T]) -> T {
-        from[self.below(from.len() as u64) as usize]
-    }
-}
+use reference::{Config, Dice};
 
 fn line(dice: &mut Dice) -> Vec<Config> {
     let most = dice.pick(&[2, 4, 8, 32, 256]);
