@@ -12,6 +12,7 @@ pub mod FreeLaws
 pub mod Confines
 pub mod SlotLaws
 pub mod Refusals
+mod Found
 pub mod Made
 pub mod Ends
 pub mod Searches

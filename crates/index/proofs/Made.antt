@@ -36,10 +36,10 @@ pub stops-at : (xs : List ℕ) (n s : ℕ) (e : Event) {i : ℕ} → i ≡ s →
 unfolding stopAt
 stops-at xs n s e {i} h = rw (eq-eqb i s h)
 
-pub stops-by : (xs : List ℕ) (n s : ℕ) (e : Event) {i j : ℕ} {y : Event} {r : Bool} → i ≢ s → j ≡ slotOf n i → y ≡ eventAt (slotRow n j) xs
-    → r ≡ before y e → r ≡ stopAt xs n s e i
+pub stops-by : (xs : List ℕ) (n s : ℕ) (e : Event) {i j : ℕ} {r : Bool} → i ≢ s → j ≡ slotOf n i → r ≡ before (eventAt (slotRow n j) xs) e
+    → r ≡ stopAt xs n s e i
 unfolding stopAt
-stops-by xs n s e {i} d ej ey er = rw (ne-eqb i s d, er, ey, ej)
+stops-by xs n s e {i} d ej er = rw (ne-eqb i s d, er, ej)
 
 pub looked-up : (xs : List ℕ) (x : ℕ) (n c : ℕ) {o r : ℕ} → o ≡ linksAt n c → r ≡ nextOf xs o x → r ≡ nextOf xs (linksAt n c) x
 looked-up xs x n c eo er = rw (← eo) er

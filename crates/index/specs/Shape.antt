@@ -1,6 +1,7 @@
 -- Where the index stands in a buffer of n stations and c slots, and which node is what.
+use mathlib.Core.Path.{_≡_}
 use mathlib.Core.Bool.{Bool, _&&_}
-use Prim.Native.Nat.{ℕ, _+_, _-_, _*_}
+use Prim.Native.Nat.{ℕ, _+_, _-_, _*_, _≤_, _<_}
 use lib.Dec.{leb}
 use Rattle.store.specs.Layout.{slotRow}
 
@@ -25,3 +26,16 @@ indexBytes n c = 64 * c + 8 * nodesOf n c
 
 abbrev pub inRange : ℕ → ℕ → Bool
 inRange n c = leb n 256 && leb c 4096
+
+-- node x is a slot's, of an index that lies whole in so many bytes
+pub record IsSlot (n c bytes x : ℕ) : Type 0 where
+  pub stations : n ≤ 256
+  pub capacity : c ≤ 4096
+  pub room : slotRow n 0 + indexBytes n c ≤ bytes
+  pub above : 2 * n < x
+  pub below : x < nodesOf n c
+
+-- r is the slot of node x; c or more where that is no slot's
+pub record FindsSlot (n c bytes x r : ℕ) : Type 0 where
+  pub sound : r < c → IsSlot n c bytes x × (r ≡ slotOf n x)
+  pub complete : IsSlot n c bytes x → (r < c) × (r ≡ slotOf n x)

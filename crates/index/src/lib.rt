@@ -9,11 +9,12 @@
 
 ghost use mathlib.Core.Path.{_≡_};
 ghost use Prim.Native.Nat.{_+_, _-_, _*_, _≤_, _<_};
+ghost use lib.ListN.{length};
 ghost use Rattle.rings.specs.Table.{nextOf, prevOf, Frame};
 ghost use Rattle.rings.specs.Walk.{steps};
 ghost use Rattle.store.specs.Layout.{slotRow};
 ghost use Rattle.store.specs.Records.{eventAt};
-ghost use Rattle.index.specs.Shape.{linksAt, logAt, nodesOf, indexBytes, inRange, slotOf};
+ghost use Rattle.index.specs.Shape.{linksAt, logAt, nodesOf, indexBytes, inRange, slotOf, FindsSlot};
 ghost use Rattle.index.specs.Slots.{Spares, Sets};
 ghost use Rattle.index.specs.Opening.{emptied, filled, Clears};
 ghost use Rattle.index.specs.Stands.{stopAt, filed, freed, Puts, Marks, Unmarks, Drops, Releases};
@@ -66,6 +67,21 @@ fn slot(n: u16, x: u16) -> u16
     x - (2 * n + 1)
 }
 
+// The slot of node x; c or more where that is no slot's, or the index does not lie whole in the buffer. Where it is below c, the compiler leaves out the
+// tests of the loads and stores in that slot and its links.
+pub fn slot_in(b: &[u8], n: u16, c: u16, x: u16) -> u16
+    ensures { λ r. ⌜ FindsSlot n c (length (now (b .entry))) x r ⌝ }
+{
+    if in_range(n, c) {
+        if log(n, c) as usize + 4 * nodes(n, c) as usize <= b.len() {
+            if 2 * n < x {
+                return x - (2 * n + 1);
+            }
+        }
+    }
+    c
+}
+
 // ---- the ends of a ring: a node, or the sentinel where the ring is empty
 
 // The node behind node x in the stations' rings and the free ring, and the one before it.
@@ -101,7 +117,7 @@ fn stops(b: &[u8], n: u16, s: u16, e: Event, i: u16) -> bool
     if i == s {
         return true;
     }
-    line::before(store::event(b, n, slot(n, i)), e)
+    store::before(b, n, slot(n, i), e)
 }
 
 // From node a back along the links at o, the first node at which that is so. On bytes that are no ring it stops after so many steps.

@@ -1,10 +1,11 @@
 -- What was put of an event, a state or a station's numbers is read back where it stands, and what stands beside it is not touched.
-use mathlib.Core.Path.{_≡_, refl, _∙_}
-use mathlib.Core.Logic.{inl, inr}
+use mathlib.Core.Path.{_≡_, refl, ap, _∙_}
+use mathlib.Core.Logic.{_≢_, inl, inr}
 use mathlib.Core.List.{List, [], _∷_}
 use Prim.Native.Nat.{ℕ, _+_, _^_, _≤_, _<_}
 use native.Mathlib.Nat.{add-zero}
 use native.Mathlib.Omega.{arith}
+use lib.Dec.{ltb}
 use lib.ListN.{length}
 use Rattle.words.specs.Le.{loadAt, storeAt}
 use Rattle.words.proofs.Laws.{Apart, length-store, load-other, load-stored}
@@ -14,6 +15,8 @@ use Rattle.line.specs.declared.Config.{Config}
 use Rattle.line.specs.declared.Matter.{Matter}
 use Rattle.line.specs.declared.Matter.the-variants.{Read, Frame, Level}
 use Rattle.line.specs.Matter.{kindOf, valueOf}
+use Rattle.line.specs.Event.{before}
+use Rattle.line.proofs.Order.{lex-apart}
 use Rattle.store.specs.Records.{matterOr, eventAt, putEvent, stateAt, putState, configAt, putConfig, EventFits, StateFits, ConfigFits}
 use Rattle.store.proofs.Run.{Run, puts, size, Fit, Reads, length-puts, puts-beside, puts-back}
 
@@ -112,3 +115,8 @@ config-back at c xs h f =
 pub event-time : (at : ℕ) (xs : List ℕ) → loadAt 8 at xs ≡ eventAt at xs .time
 unfolding eventAt
 event-time at xs = refl
+
+-- where the times differ they decide the event order
+pub told-by-time : (at : ℕ) (xs : List ℕ) (e : Event) {t : ℕ} → t ≡ loadAt 8 at xs → t ≢ e .time → ltb t (e .time) ≡ before (eventAt at xs) e
+unfolding before eventAt
+told-by-time at xs e p q = ap (λ t. ltb t (e .time)) p ∙ lex-apart _ (λ h. q (p ∙ h))

@@ -1,9 +1,8 @@
 -- A load or a store whose bytes lie whole in the list is the plain one, and any other reads 0 or changes nothing.
-use mathlib.Core.Path.{_≡_, refl, sym, _∙_}
+use mathlib.Core.Path.{_≡_, sym, _∙_}
 use mathlib.Core.Bool.{Bool, true, false}
 use mathlib.Core.List.{List}
-use Prim.Native.Nat.{ℕ, _+_, _-_, _≤_, _<_}
-use native.Mathlib.Omega.{arith}
+use Prim.Native.Nat.{ℕ, _+_, _≤_, _<_}
 use borrow.Author.Tests.{leb-true, leb-false, le-leb, lt-leb}
 use lib.Dec.{leb}
 use lib.ListN.{length}
@@ -25,14 +24,7 @@ pub store-out : (n i v : ℕ) (xs : List ℕ) → length xs < i + n → storeAt 
 unfolding storeAt
 store-out n i v xs h = rw (lt-leb (i + n) (length xs) h)
 
--- ---- the test of the code, which makes no sum
-
-pub test-shifted : (n i k : ℕ) → n ≤ k → leb i (k - n) ≡ leb (i + n) k
-test-shifted n i k h = go (leb i (k - n)) refl
-  where
-    go : (b : Bool) → leb i (k - n) ≡ b → b ≡ leb (i + n) k
-    go true e = let l : i ≤ k - n = leb-true i (k - n) e in sym (le-leb (i + n) k (omega arith))
-    go false e = let l : k - n < i = leb-false i (k - n) e in sym (lt-leb (i + n) k (omega arith))
+-- ---- the test of the code
 
 pub test-in : (n i k : ℕ) {b : Bool} → b ≡ leb (i + n) k → b ≡ true → i + n ≤ k
 test-in n i k p q = leb-true (i + n) k (sym p ∙ q)

@@ -10,14 +10,11 @@ returns c = stops-at _ _ _ _ (c .if1 .taken)
 slot-requires : tie.Need-slot-requires
 slot-requires c κs = search needs
 
-event-requires : tie.Need-event-requires
-event-requires c κs = search needs
-
 before-requires : tie.Need-before-requires
 before-requires c κs = search needs
 
 returns-2 : tie.Need-returns-2
-returns-2 c = stops-by _ _ _ _ (c .before .before .before .if1 .left) (c .before .before .slot .ensures) (c .before .event .ensures) (c .before2 .ensures)
+returns-2 c = stops-by _ _ _ _ (c .before .before .if1 .left) (c .before .slot .ensures) (c .before2 .ensures)
 
 pub stops-spec : {M : Type 1} → statement M
-stops-spec = tie.close (tie.spec returns slot-requires event-requires before-requires returns-2)
+stops-spec = tie.close (tie.spec returns slot-requires before-requires returns-2)
