@@ -1,11 +1,12 @@
 -- From what the calls of a function ensure, in their order, to the change that it makes.
-use mathlib.Core.Path.{_≡_, _∙_}
-use mathlib.Core.Logic.{_≢_}
+use mathlib.Core.Path.{_≡_, sym, _∙_}
+use mathlib.Core.Logic.{_≢_, inl, inr}
 use mathlib.Core.Bool.{Bool, true}
 use mathlib.Core.List.{List}
 use Prim.Native.Nat.{ℕ, _+_, _*_, _<_}
 use native.Mathlib.Omega.{arith}
 use borrow.Author.Tests.{eq-eqb, ne-eqb}
+use lib.ListN.{length}
 use Rattle.words.specs.Le.{storeAt}
 use Rattle.line.specs.declared.Event.{Event}
 use Rattle.line.specs.declared.State.{State}
@@ -13,11 +14,13 @@ use Rattle.line.specs.Event.{before}
 use Rattle.rules.specs.Held.{unrun, ran}
 use Rattle.rings.specs.Table.{nextOf, prevOf, linkAfter, unlinked}
 use Rattle.rings.specs.Walk.{steps}
+use Rattle.rings.proofs.Steps.{at-stop}
+use Rattle.rings.proofs.Confined.{unlink-frame}
 use Rattle.store.specs.Layout.{slotRow}
 use Rattle.store.specs.Records.{eventAt, putEvent, putState}
-use Rattle.index.specs.Shape.{linksAt, logAt, nodesOf, slotOf}
+use Rattle.index.specs.Shape.{linksAt, logAt, nodesOf, slotOf, FindsSlot}
 use Rattle.index.specs.Slots.{Spares, Sets}
-use Rattle.index.specs.Stands.{cell, stopAt, filed, freed, Puts, Marks, Unmarks, Drops, Releases}
+use Rattle.index.specs.Stands.{cell, stopAt, filed, freed, Frees, Puts, Marks, Unmarks, Drops, Releases}
 use Rattle.index.proofs.Slots.{held-event}
 use Rattle.index.proofs.PutLaws.{putBytes, first-free, put-stands}
 use Rattle.index.proofs.MarkLaws.{markBytes, node-of, mark-stands}
@@ -25,6 +28,7 @@ use Rattle.index.proofs.UnmarkLaws.{unmarkBytes, unmark-stands}
 use Rattle.index.proofs.FreeLaws.{drop-stands, release-stands}
 use Rattle.index.proofs.Confines.{Inside, put-inside, mark-inside, unmark-inside, freed-inside, released-inside}
 use Rattle.index.proofs.SlotLaws.{put-spares, mark-spares, unmark-spares, unmark-sets, freed-spares, freed-sets, released-spares}
+use Rattle.index.proofs.Refusals.{drop-none}
 
 -- where the status stands
 status : (n i : ℕ) → slotRow n i + 56 + 2 * 2 ≡ slotRow n i + 60
@@ -55,19 +59,19 @@ pub filed-made : (xs : List ℕ) (n o k s : ℕ) (e : Event) (x : ℕ) {p a : �
 unfolding filed
 filed-made xs n o k s e x ep ea e₁ = rw (e₁, ea, ep)
 
-pub freed-made : (xs : List ℕ) (n o k x : ℕ) {i : ℕ} {t₁ t₂ ys : List ℕ} → i ≡ slotOf n x → t₁ ≡ storeAt 2 (slotRow n i + 56 + 2 * 2) 0 xs
-    → t₂ ≡ unlinked t₁ o k x → ys ≡ linkAfter t₂ o k (2 * n) x → ys ≡ freed xs n o k x
-unfolding freed
-freed-made xs n o k x {i} ei e₁ e₂ e₃ = rw (e₃, e₂, e₁, status n i, ei)
+-- the place is behind the last one
+pub filed-last : (xs : List ℕ) (n o k s : ℕ) (e : Event) (x : ℕ) {p : ℕ} {r : Bool} {ys : List ℕ} → p ≡ prevOf xs o s → r ≡ stopAt xs n s e p → r ≡ true
+    → ys ≡ linkAfter xs o k p x → ys ≡ filed xs n o k s e x
+filed-last xs n o k s e x {p} ep er h e₁ = filed-made xs n o k s e x ep (sym (at-stop (prevOf xs o) (stopAt xs n s e) k p (sym er ∙ h))) e₁
 
 -- ---- the changes
 
 module _ (n c : ℕ) (xs : List ℕ) where
-  pub put-made : (e : Event) {x o k i j : ℕ} {t₁ t₂ t₃ ys : List ℕ} → o ≡ linksAt n c → k ≡ nodesOf n c → x ≡ nextOf xs o (2 * n) → 2 * n < x → x < k
-      → t₁ ≡ unlinked xs o k x → i ≡ slotOf n x → t₂ ≡ putEvent (slotRow n i) e t₁ → j ≡ slotOf n x → t₃ ≡ storeAt 2 (slotRow n j + 56 + 2 * 2) 1 t₂
-      → ys ≡ filed t₃ n o k (e .target) e x → Inside n c xs ys × (Puts n c xs e x ys × Spares n c x xs ys)
-  put-made e {x} {o} {k} {i} {j} {t₁} {t₂} {t₃} {ys} eo ek ex lo hi e₁ ei e₂ ej e₃ e₄ = (
-    rw made (put-inside n c xs x lo (rw ek at hi) e),
+  pub put-made : (e : Event) {x o k i : ℕ} {t₁ t₂ t₃ ys : List ℕ} → o ≡ linksAt n c → k ≡ nodesOf n c → x ≡ nextOf xs o (2 * n)
+      → FindsSlot n c (length xs) x i → i < c → t₁ ≡ unlinked xs o k x → t₂ ≡ putEvent (slotRow n i) e t₁
+      → t₃ ≡ storeAt 2 (slotRow n i + 56 + 2 * 2) 1 t₂ → ys ≡ filed t₃ n o k (e .target) e x → Inside n c xs ys × (Puts n c xs e x ys × Spares n c x xs ys)
+  put-made e {x} {o} {k} {i} {t₁} {t₂} {t₃} {ys} eo ek ex F h e₁ e₂ e₃ e₄ = (
+    rw made (put-inside n c xs x (F .sound h .0 .above) (F .sound h .0 .below) e),
     (
       (λ A B z fs S fit l a b.
           let q : x ≡ z = ex ∙ rw (← eo) at (first-free S .0) in
@@ -78,18 +82,18 @@ module _ (n c : ℕ) (xs : List ℕ) where
   )
     where
       made : ys ≡ putBytes n c xs e x
-      made = rw (e₄, e₃, e₂, e₁, status n j, ei, ej, ek, eo)
+      made = rw (e₄, e₃, e₂, e₁, status n i, F .sound h .1, ek, eo)
 
-  module _ (x : ℕ) where
-    pub mark-made : (v : State) {o k l i a : ℕ} {e : Event} {t₁ t₂ t₃ t₄ ys : List ℕ} → o ≡ linksAt n c → k ≡ nodesOf n c → x < k → 2 * n < x
-        → i ≡ slotOf n x → e ≡ eventAt (slotRow n i) xs → t₁ ≡ putState (slotRow n i + 24) v xs → t₂ ≡ storeAt 2 (slotRow n i + 56 + 2 * 2) 2 t₁
-        → t₃ ≡ unlinked t₂ o k x → a ≡ prevOf t₃ o (n + e .target) → t₄ ≡ linkAfter t₃ o k a x → l ≡ logAt n c → ys ≡ filed t₄ n l k 0 e x
+  module _ (x : ℕ) {i : ℕ} (F : FindsSlot n c (length xs) x i) (h : i < c) where
+    pub mark-made : (v : State) {o k l a : ℕ} {e : Event} {t₁ t₂ t₃ t₄ ys : List ℕ} → e ≡ eventAt (slotRow n i) xs → o ≡ linksAt n c → k ≡ nodesOf n c
+        → t₁ ≡ putState (slotRow n i + 24) v xs → t₂ ≡ storeAt 2 (slotRow n i + 56 + 2 * 2) 2 t₁ → t₃ ≡ unlinked t₂ o k x
+        → a ≡ prevOf t₃ o (n + e .target) → t₄ ≡ linkAfter t₃ o k a x → l ≡ logAt n c → ys ≡ filed t₄ n l k 0 e x
         → Inside n c xs ys × (Marks n c xs x v ys × Spares n c x xs ys)
-    mark-made v {o} {k} {l} {i} {a} {e} {t₁} {t₂} {t₃} {t₄} {ys} eo ek hi lo ei ee e₁ e₂ e₃ ea e₄ el e₅ = (
-      rw made (mark-inside n c xs x lo (rw ek at hi) e v),
+    mark-made v {o} {k} {l} {a} {e} {t₁} {t₂} {t₃} {t₄} {ys} ee eo ek e₁ e₂ e₃ ea e₄ el e₅ = (
+      rw made (mark-inside n c xs x (F .sound h .0 .above) (F .sound h .0 .below) e v),
       (
         (λ A B z free S fit first last.
-            let q : e ≡ z = (ee ∙ rw ei) ∙ held-event n xs x (unrun z) (node-of A (cell x (unrun z)) B S .0) in
+            let q : e ≡ z = (ee ∙ rw (F .sound h .1)) ∙ held-event n xs x (unrun z) (node-of A (cell x (unrun z)) B S .0) in
             let E : ys ≡ markBytes n c xs x z v = rw (← q) made in
             rw E (mark-stands n c xs x z v A B free S fit first last)),
         rw made (mark-spares n c xs x e v),
@@ -97,17 +101,17 @@ module _ (n c : ℕ) (xs : List ℕ) where
     )
       where
         made : ys ≡ markBytes n c xs x e v
-        made = rw (e₅, e₄, ea, e₃, e₂, e₁, status n i, ei, el, ek, eo)
+        made = rw (e₅, e₄, ea, e₃, e₂, e₁, status n i, F .sound h .1, el, ek, eo)
 
-    pub unmark-made : {o k l i : ℕ} {e : Event} {t₁ t₂ t₃ ys : List ℕ} → o ≡ linksAt n c → k ≡ nodesOf n c → x < k → 2 * n < x
-        → i ≡ slotOf n x → e ≡ eventAt (slotRow n i) xs → t₁ ≡ storeAt 2 (slotRow n i + 56 + 2 * 2) 1 xs → l ≡ logAt n c → t₂ ≡ unlinked t₁ l k x
-        → t₃ ≡ unlinked t₂ o k x → ys ≡ linkAfter t₃ o k (e .target) x
+    pub unmark-made : {o k l : ℕ} {e : Event} {t₁ t₂ t₃ ys : List ℕ} → e ≡ eventAt (slotRow n i) xs → o ≡ linksAt n c → k ≡ nodesOf n c
+        → t₁ ≡ storeAt 2 (slotRow n i + 56 + 2 * 2) 1 xs → l ≡ logAt n c → t₂ ≡ unlinked t₁ l k x → t₃ ≡ unlinked t₂ o k x
+        → ys ≡ linkAfter t₃ o k (e .target) x
         → Inside n c xs ys × (Unmarks n c xs x ys × (Spares n c x xs ys × (eventAt (slotRow n (slotOf n x)) xs .target < n → Sets n c x 1 xs ys)))
-    unmark-made {o} {k} {l} {i} {e} {t₁} {t₂} {t₃} {ys} eo ek hi lo ei ee e₁ el e₂ e₃ e₄ = (
-      rw made (unmark-inside n c xs x lo (rw ek at hi) e),
+    unmark-made {o} {k} {l} {e} {t₁} {t₂} {t₃} {ys} ee eo ek e₁ el e₂ e₃ e₄ = (
+      rw made (unmark-inside n c xs x (F .sound h .0 .above) (F .sound h .0 .below) e),
       (
         (λ A B z b free S first last.
-            let q : e ≡ z = (ee ∙ rw ei) ∙ held-event n xs x (ran z b) (node-of A (cell x (ran z b)) B S .0) in
+            let q : e ≡ z = (ee ∙ rw (F .sound h .1)) ∙ held-event n xs x (ran z b) (node-of A (cell x (ran z b)) B S .0) in
             let E : ys ≡ unmarkBytes n c xs x z = rw (← q) made in
             rw E (unmark-stands n c xs x z A B b free S first last)),
         (rw made (unmark-spares n c xs x e), (λ _. rw made (unmark-sets n c xs x e))),
@@ -115,20 +119,35 @@ module _ (n c : ℕ) (xs : List ℕ) where
     )
       where
         made : ys ≡ unmarkBytes n c xs x e
-        made = rw (e₄, e₃, e₂, e₁, status n i, ei, el, ek, eo)
+        made = rw (e₄, e₃, e₂, e₁, status n i, F .sound h .1, el, ek, eo)
 
-    pub drop-made : {o k : ℕ} {ys : List ℕ} → k ≡ nodesOf n c → x < k → 2 * n < x → o ≡ linksAt n c → ys ≡ freed xs n o k x
-        → Inside n c xs ys × (Drops n c xs x ys × (Spares n c x xs ys × Sets n c x 0 xs ys))
-    drop-made ek hi lo eo e₁ =
-        rw (e₁, eo, ek) (
-          freed-inside n c xs x lo (rw ek at hi),
-          ((λ A B e free S. drop-stands n c xs x A B e free S), (freed-spares n c xs x, freed-sets n c xs x)),
-        )
+    pub free-made : {o k : ℕ} {t₁ t₂ ys : List ℕ} → o ≡ linksAt n c → k ≡ nodesOf n c → t₁ ≡ storeAt 2 (slotRow n i + 56 + 2 * 2) 0 xs
+        → t₂ ≡ unlinked t₁ o k x → ys ≡ linkAfter t₂ o k (2 * n) x → Frees n c xs x ys
+    unfolding freed
+    free-made eo ek e₁ e₂ e₃ = inl (F .sound h .0, rw (e₃, e₂, e₁, status n i, F .sound h .1, ek, eo))
 
-    pub release-made : {o k l : ℕ} {t₁ ys : List ℕ} → k ≡ nodesOf n c → x < k → 2 * n < x → l ≡ logAt n c → t₁ ≡ unlinked xs l k x → o ≡ linksAt n c
-        → ys ≡ freed t₁ n o k x → Inside n c xs ys × (Releases n c xs x ys × Spares n c x xs ys)
-    release-made ek hi lo el e₁ eo e₂ =
-        rw (e₂, e₁, el, eo, ek) (
-          released-inside n c xs x lo (rw ek at hi),
-          ((λ A B e b free S. release-stands n c xs x A B e b free S), released-spares n c xs x),
-        )
+    pub release-made : {k l : ℕ} {t₁ ys : List ℕ} → l ≡ logAt n c → k ≡ nodesOf n c → t₁ ≡ unlinked xs l k x → Frees n c t₁ x ys
+        → Inside n c xs ys × (Releases n c xs x ys × Spares n c x xs ys)
+    release-made {t₁ = t₁} {ys} el ek e₁ G = go G
+      where
+        same : t₁ ≡ unlinked xs (logAt n c) (nodesOf n c) x
+        same = rw (← el, ← ek) e₁
+
+        size : length t₁ ≡ length xs
+        size = rw same (unlink-frame xs (logAt n c) (nodesOf n c) x .size)
+
+        go : Frees n c t₁ x ys → Inside n c xs ys × (Releases n c xs x ys × Spares n c x xs ys)
+        go (inl (_, e₂)) =
+            rw (e₂, same) (
+              released-inside n c xs x (F .sound h .0 .above) (F .sound h .0 .below),
+              ((λ A B e b free S. release-stands n c xs x A B e b free S), released-spares n c xs x),
+            )
+        go (inr (gone, _)) = absurd (gone (rw size (F .sound h .0)))
+
+  pub drop-made : (x : ℕ) {ys : List ℕ} → Frees n c xs x ys → Inside n c xs ys × (Drops n c xs x ys × (Spares n c x xs ys × Sets n c x 0 xs ys))
+  drop-made x (inl (s, e)) =
+      rw e (
+        freed-inside n c xs x (s .above) (s .below),
+        ((λ A B e free S. drop-stands n c xs x A B e free S), (freed-spares n c xs x, freed-sets n c xs x)),
+      )
+  drop-made x (inr (gone, e)) = rw e (drop-none n c xs x gone)

@@ -1,4 +1,4 @@
--- Where the code does nothing, the bytes stand for no such cell: the numbers are out of range, the node is no slot's, or its event is at no station.
+-- Where the code does nothing, the bytes stand for no such cell: the node is no slot's, or its event is at no station.
 use mathlib.Core.Path.{_≡_, refl, sym, ap, _∙_}
 use mathlib.Core.Bool.{Bool, true, false, true≢false, _&&_}
 use mathlib.Core.List.{List, _∷_, _++_}
@@ -6,6 +6,7 @@ use Prim.Native.Nat.{ℕ, _*_, _≤_, _<_}
 use native.Mathlib.Omega.{arith}
 use borrow.Author.Tests.{le-leb, lt-leb, leb-true}
 use lib.Dec.{leb}
+use lib.ListN.{length}
 use Rattle.line.specs.declared.Event.{Event}
 use Rattle.line.specs.declared.State.{State}
 use Rattle.rules.specs.Held.{Held, unrun, ran}
@@ -13,7 +14,7 @@ use Rattle.rings.specs.Table.{nextOf}
 use Rattle.rings.proofs.Frames.{frame-same}
 use Rattle.store.specs.Layout.{slotRow}
 use Rattle.store.specs.Records.{eventAt}
-use Rattle.index.specs.Shape.{linksAt, nodesOf, slotOf, indexBytes, inRange}
+use Rattle.index.specs.Shape.{linksAt, slotOf, indexBytes, inRange, IsSlot, FindsSlot}
 use Rattle.index.specs.Slots.{Spares, Sets}
 use Rattle.index.specs.Stands.{Cell, cell, Stands, Puts, Marks, Unmarks, Drops, Releases}
 use Rattle.index.proofs.Slots.{held-event}
@@ -47,27 +48,24 @@ module _ (n c : ℕ) where
 
 -- ---- no event's node
 
--- the numbers are out of range, or node x is no slot's
-abbrev pub NoNode : ℕ → ℕ → ℕ → Type 0
-NoNode n c x = n ≤ 256 → c ≤ 4096 → 2 * n < x → x < nodesOf n c → ⊥
+-- node x is no slot's
+abbrev pub NoNode : ℕ → ℕ → List ℕ → ℕ → Type 0
+NoNode n c xs x = IsSlot n c (length xs) x → ⊥
 
 -- or the event in its slot is at no station
 abbrev pub Refused : ℕ → ℕ → List ℕ → ℕ → Type 0
-Refused n c xs x = eventAt (slotRow n (slotOf n x)) xs .target < n → NoNode n c x
+Refused n c xs x = eventAt (slotRow n (slotOf n x)) xs .target < n → NoNode n c xs x
 
-module _ (n c : ℕ) where
-  pub refused-range : {r : Bool} (x : ℕ) → r ≡ inRange n c → r ≡ false → NoNode n c x
-  refused-range x e z p q lo hi = range-gone n c e z p q
+module _ (n c : ℕ) (xs : List ℕ) (x : ℕ) {i : ℕ} (F : FindsSlot n c (length xs) x i) where
+  pub found-range : i < c → (n ≤ 256) × (c ≤ 4096)
+  found-range h = (F .sound h .0 .stations, F .sound h .0 .capacity)
 
-  pub refused-over : {k x : ℕ} → k ≡ nodesOf n c → k ≤ x → NoNode n c x
-  refused-over ek l p q lo hi = omega arith
+  pub refused-slot : c ≤ i → NoNode n c xs x
+  refused-slot h s = let below = F .complete s .0 in omega arith
 
-  pub refused-low : {x : ℕ} → x ≤ 2 * n → NoNode n c x
-  refused-low l p q lo hi = omega arith
-
-  pub refused-target : (xs : List ℕ) (x : ℕ) {i : ℕ} {e : Event} → i ≡ slotOf n x → e ≡ eventAt (slotRow n i) xs → n ≤ e .target → Refused n c xs x
-  refused-target xs x {i} {e} ei ee l t p q lo hi =
-      let z : e ≡ eventAt (slotRow n (slotOf n x)) xs = ee ∙ rw ei in
+  pub refused-target : {e : Event} → i < c → e ≡ eventAt (slotRow n i) xs → n ≤ e .target → Refused n c xs x
+  refused-target {e} h ee l t s =
+      let z : e ≡ eventAt (slotRow n (slotOf n x)) xs = ee ∙ rw (F .sound h .1) in
       omega (arith, t, l, ap (λ (e : Event). e .target) z)
 
 module _ (n c : ℕ) (xs : List ℕ) (x : ℕ) where
@@ -75,7 +73,9 @@ module _ (n c : ℕ) (xs : List ℕ) (x : ℕ) where
   gone : Refused n c xs x → (A : List Cell) (h : Held) (B : List Cell) (free : List ℕ) → Stands n c xs (A ++ cell x h ∷ B) free → ⊥
   gone R A h B free S =
       let w = node-of A (cell x h) B S in
-      R (rw (held-event n xs x h (w .0)) (w .2)) (S .stations) (S .capacity) (w .1) (w .3)
+      let s : IsSlot n c (length xs) x =
+      record { stations = S .stations; capacity = S .capacity; room = S .room; above = w .1; below = w .3 } in
+      R (rw (held-event n xs x h (w .0)) (w .2)) s
 
   unmoved : Inside n c xs xs
   unmoved = frame-same (slotRow n 0) (indexBytes n c) xs
@@ -90,17 +90,17 @@ module _ (n c : ℕ) (xs : List ℕ) (x : ℕ) where
       unmoved,
       (
         (λ A B e b free S _ _. absurd (gone R A (ran e b) B free S)),
-        (spares-same n c x xs, (λ t p q lo hi _. absurd (R t p q lo hi))),
+        (spares-same n c x xs, (λ t s. absurd (R t s))),
       ),
     )
 
-  module _ (R : NoNode n c x) where
+  module _ (R : NoNode n c xs x) where
     pub drop-none : Inside n c xs xs × (Drops n c xs x xs × (Spares n c x xs xs × Sets n c x 0 xs xs))
     drop-none = (
       unmoved,
       (
         (λ A B e free S. absurd (gone (λ _. R) A (unrun e) B free S)),
-        (spares-same n c x xs, (λ p q lo hi _. absurd (R p q lo hi))),
+        (spares-same n c x xs, (λ s. absurd (R s))),
       ),
     )
 
@@ -117,13 +117,12 @@ module _ (n c : ℕ) (xs : List ℕ) (e : Event) (r : ℕ) where
   pub put-range : {v : Bool} → v ≡ inRange n c → v ≡ false → Inside n c xs xs × (Puts n c xs e r xs × Spares n c r xs xs)
   put-range q z = left (λ A B x fs S _ _ _ _. absurd (range-gone n c q z (S .stations) (S .capacity)))
 
-  pub put-none : {o x : ℕ} → o ≡ linksAt n c → x ≡ nextOf xs o (2 * n) → x ≤ 2 * n → Inside n c xs xs × (Puts n c xs e r xs × Spares n c r xs xs)
-  put-none {o} {x} eo q l =
-      left
-      (λ A B y fs S _ _ _ _. let z : x ≡ nextOf xs (linksAt n c) (2 * n) = rw eo at q in absurd (omega (arith, first-free S .0, first-free S .1)))
-
-  pub put-over : {o k x : ℕ} → o ≡ linksAt n c → k ≡ nodesOf n c → x ≡ nextOf xs o (2 * n) → k ≤ x
+  pub put-none : {o x i : ℕ} → o ≡ linksAt n c → x ≡ nextOf xs o (2 * n) → FindsSlot n c (length xs) x i → c ≤ i
       → Inside n c xs xs × (Puts n c xs e r xs × Spares n c r xs xs)
-  put-over {o} {k} {x} eo ek q l =
+  put-none {o} {x} eo q F l =
       left
-      (λ A B y fs S _ _ _ _. let z : x ≡ nextOf xs (linksAt n c) (2 * n) = rw eo at q in absurd (omega (arith, first-free S .0, first-free S .2)))
+      (λ A B y fs S _ _ _ _.
+      let z : x ≡ y = q ∙ rw (← eo) at (first-free S .0) in
+      let s : IsSlot n c (length xs) x =
+      rw z (record { stations = S .stations; capacity = S .capacity; room = S .room; above = first-free S .1; below = first-free S .2 }) in
+      absurd (refused-slot n c xs x F l s))

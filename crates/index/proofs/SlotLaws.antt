@@ -71,7 +71,11 @@ module _ (n c x : ℕ) where
       F = store-frame 2 (slotRow n (slotOf n x) + 60) v xs
 
   sets-status : (v : ℕ) (xs : List ℕ) → v < 65536 → Sets n c x v xs (storeAt 2 (slotRow n (slotOf n x) + 60) v xs)
-  sets-status v xs h _ _ lo hi room = load-stored 2 (slotRow n (slotOf n x) + 60) v xs (omega arith) (omega arith)
+  sets-status v xs h s =
+      let room = s .room in
+      let above = s .above in
+      let below = s .below in
+      load-stored 2 (slotRow n (slotOf n x) + 60) v xs (omega arith) (omega arith)
 
 -- one store after the other
 spares-on : {n c x : ℕ} {xs ys zs : List ℕ} → Spares n c x xs ys → Spares n c x ys zs → Spares n c x xs zs
@@ -83,7 +87,10 @@ spares-on S T =
 
 -- the links after the status
 sets-on : (n c x v : ℕ) (xs : List ℕ) {a l : ℕ} {ys zs : List ℕ} → linksAt n c ≤ a → Sets n c x v xs ys → Frame a l ys zs → Sets n c x v xs zs
-sets-on n c x v xs b S F p q lo hi room = F .loads 2 (slotRow n (slotOf n x) + 60) (inr (omega arith)) ∙ S p q lo hi room
+sets-on n c x v xs b S F s =
+    let above = s .above in
+    let below = s .below in
+    F .loads 2 (slotRow n (slotOf n x) + 60) (inr (omega arith)) ∙ S s
 
 -- ---- each step of a change
 

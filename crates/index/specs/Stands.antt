@@ -1,9 +1,9 @@
 -- The held events that the bytes stand for, each with the node of its slot, and what each change of the index makes of them.
 use mathlib.Core.Path.{_≡_}
-use mathlib.Core.Logic.{_≢_}
+use mathlib.Core.Logic.{_≢_, _⊎_}
 use mathlib.Core.Bool.{Bool, true, false, cond, _||_}
 use mathlib.Core.List.{List, [], _∷_, _++_}
-use Prim.Native.Nat.{ℕ, suc, _+_, _-_, _*_, _≤_, _<_}
+use Prim.Native.Nat.{ℕ, _+_, _*_, _≤_, _<_}
 use lib.Dec.{eqb}
 use lib.ListN.{length}
 use Rattle.words.specs.Le.{loadAt, storeAt}
@@ -11,12 +11,12 @@ use Rattle.line.specs.declared.Event.{Event}
 use Rattle.line.specs.declared.State.{State}
 use Rattle.line.specs.Event.{before}
 use Rattle.rules.specs.Held.{Held, unrun, ran, event}
-use Rattle.rings.specs.Table.{nextOf, prevOf, linkAfter, unlinked}
+use Rattle.rings.specs.Table.{prevOf, linkAfter, unlinked}
 use Rattle.rings.specs.Ring.{Rings}
 use Rattle.rings.specs.Walk.{steps}
 use Rattle.store.specs.Layout.{slotRow}
 use Rattle.store.specs.Records.{eventAt, stateAt, EventFits, StateFits}
-use Rattle.index.specs.Shape.{nodesOf, slotOf, linksAt, logAt, indexBytes}
+use Rattle.index.specs.Shape.{nodesOf, slotOf, linksAt, logAt, indexBytes, IsSlot}
 
 -- ---- the held events with their nodes
 
@@ -105,6 +105,11 @@ filed xs n o k s e x = linkAfter xs o k (steps (prevOf xs o) (stopAt xs n s e) k
 -- node x put from its ring into the free ring, with status 0
 unfoldable pub freed : List ℕ → ℕ → ℕ → ℕ → ℕ → List ℕ
 freed xs n o k x = linkAfter (unlinked (storeAt 2 (slotRow n (slotOf n x) + 60) 0 xs) o k x) o k (2 * n) x
+
+-- it is, where node x is a slot's; elsewhere nothing is done
+abbrev pub Frees : ℕ → ℕ → List ℕ → ℕ → List ℕ → Type 0
+Frees n c xs x ys =
+    (IsSlot n c (length xs) x × (ys ≡ freed xs n (linksAt n c) (nodesOf n c) x)) ⊎ ((IsSlot n c (length xs) x → ⊥) × (ys ≡ xs))
 
 -- ---- the changes
 

@@ -17,7 +17,7 @@ ghost use Rattle.store.specs.Records.{eventAt};
 ghost use Rattle.index.specs.Shape.{linksAt, logAt, nodesOf, indexBytes, inRange, slotOf, FindsSlot};
 ghost use Rattle.index.specs.Slots.{Spares, Sets};
 ghost use Rattle.index.specs.Opening.{emptied, filled, Clears};
-ghost use Rattle.index.specs.Stands.{stopAt, filed, freed, Puts, Marks, Unmarks, Drops, Releases};
+ghost use Rattle.index.specs.Stands.{stopAt, filed, Frees, Puts, Marks, Unmarks, Drops, Releases};
 use line::Event;
 use line::State;
 
@@ -137,7 +137,7 @@ fn walk_back(b: &[u8], n: u16, o: u32, s: u16, e: Event, a: u16, fuel: u16) -> u
     at
 }
 
-// Node x goes to the place of the event e in the ring of s, found from the last one back.
+// Node x goes to the place of the event e in the ring of s, found from the last one back. That is mostly behind the last: callers try it first.
 fn file(b: &mut [u8], n: u16, o: u32, k: u16, s: u16, e: Event, x: u16)
     requires { ⌜ n ≤ 256 ⌝ }
     ensures { λ _. ⌜ now (b .exit) ≡ filed (now (b .entry)) n o k s e x ⌝ }
@@ -159,17 +159,20 @@ pub fn put(b: &mut [u8], n: u16, c: u16, e: Event) -> u16
         let o = links(n, c);
         let k = nodes(n, c);
         let x = rings::next(b, o, 2 * n);
-        if x <= 2 * n {
-            return 2 * n;
+        let spare = slot_in(b, n, c, x);
+        if spare < c {
+            rings::unlink(b, o, k, x);
+            store::set_event(b, n, spare, e);
+            store::set_number(b, n, spare, 2, 1);
+            let last = rings::prev(b, o, e.target);
+            if stops(b, n, e.target, e, last) {
+                rings::insert_after(b, o, k, last, x);
+                return x;
+            }
+            file(b, n, o, k, e.target, e, x);
+            return x;
         }
-        if k <= x {
-            return 2 * n;
-        }
-        rings::unlink(b, o, k, x);
-        store::set_event(b, n, slot(n, x), e);
-        store::set_number(b, n, slot(n, x), 2, 1);
-        file(b, n, o, k, e.target, e, x);
-        return x;
+        return 2 * n;
     }
     0
 }
@@ -180,27 +183,26 @@ pub fn mark(b: &mut [u8], n: u16, c: u16, x: u16, v: State)
     ensures marks { λ _. ⌜ Marks n c (now (b .entry)) x v (now (b .exit)) ⌝ }
     ensures spares { λ _. ⌜ Spares n c x (now (b .entry)) (now (b .exit)) ⌝ }
 {
-    if in_range(n, c) {
-        let o = links(n, c);
-        let k = nodes(n, c);
-        if k <= x {
-            return;
-        }
-        if x <= 2 * n {
-            return;
-        }
-        let i = slot(n, x);
+    let i = slot_in(b, n, c, x);
+    if i < c {
         let e = store::event(b, n, i);
         let t = e.target;
-        if n <= t {
-            return;
+        if t < n {
+            let o = links(n, c);
+            let k = nodes(n, c);
+            store::set_saved(b, n, i, v);
+            store::set_number(b, n, i, 2, 2);
+            rings::unlink(b, o, k, x);
+            let a = rings::prev(b, o, n + t);
+            rings::insert_after(b, o, k, a, x);
+            let l = log(n, c);
+            let last = rings::prev(b, l, 0);
+            if stops(b, n, 0, e, last) {
+                rings::insert_after(b, l, k, last, x);
+                return;
+            }
+            file(b, n, l, k, 0, e, x);
         }
-        store::set_saved(b, n, i, v);
-        store::set_number(b, n, i, 2, 2);
-        rings::unlink(b, o, k, x);
-        let a = rings::prev(b, o, n + t);
-        rings::insert_after(b, o, k, a, x);
-        file(b, n, log(n, c), k, 0, e, x);
     }
 }
 
@@ -211,36 +213,33 @@ pub fn unmark(b: &mut [u8], n: u16, c: u16, x: u16)
     ensures spares { λ _. ⌜ Spares n c x (now (b .entry)) (now (b .exit)) ⌝ }
     ensures sets { λ _. ⌜ (eventAt (slotRow n (slotOf n x)) (now (b .entry)) .target < n → Sets n c x 1 (now (b .entry)) (now (b .exit))) ⌝ }
 {
-    if in_range(n, c) {
-        let o = links(n, c);
-        let k = nodes(n, c);
-        if k <= x {
-            return;
-        }
-        if x <= 2 * n {
-            return;
-        }
-        let i = slot(n, x);
+    let i = slot_in(b, n, c, x);
+    if i < c {
         let e = store::event(b, n, i);
         let t = e.target;
-        if n <= t {
-            return;
+        if t < n {
+            let o = links(n, c);
+            let k = nodes(n, c);
+            store::set_number(b, n, i, 2, 1);
+            rings::unlink(b, log(n, c), k, x);
+            rings::unlink(b, o, k, x);
+            rings::insert_after(b, o, k, t, x);
         }
-        store::set_number(b, n, i, 2, 1);
-        rings::unlink(b, log(n, c), k, x);
-        rings::unlink(b, o, k, x);
-        rings::insert_after(b, o, k, t, x);
     }
 }
 
-// Node x goes from its ring to the free ring, and its slot's status is 0.
-fn free(b: &mut [u8], n: u16, o: u32, k: u16, x: u16)
-    requires { ⌜ n ≤ 256 ⌝ }
-    ensures { λ _. ⌜ now (b .exit) ≡ freed (now (b .entry)) n o k x ⌝ }
+// Node x goes from its ring to the free ring, and its slot's status is 0. Nothing is done where it is no slot's node.
+fn free(b: &mut [u8], n: u16, c: u16, x: u16)
+    ensures { λ _. ⌜ Frees n c (now (b .entry)) x (now (b .exit)) ⌝ }
 {
-    store::set_number(b, n, slot(n, x), 2, 0);
-    rings::unlink(b, o, k, x);
-    rings::insert_after(b, o, k, 2 * n, x);
+    let held = slot_in(b, n, c, x);
+    if held < c {
+        let o = links(n, c);
+        let k = nodes(n, c);
+        store::set_number(b, n, held, 2, 0);
+        rings::unlink(b, o, k, x);
+        rings::insert_after(b, o, k, 2 * n, x);
+    }
 }
 
 // The slot of node x, an unrun event's, is free.
@@ -250,16 +249,7 @@ pub fn drop(b: &mut [u8], n: u16, c: u16, x: u16)
     ensures spares { λ _. ⌜ Spares n c x (now (b .entry)) (now (b .exit)) ⌝ }
     ensures sets { λ _. ⌜ Sets n c x 0 (now (b .entry)) (now (b .exit)) ⌝ }
 {
-    if in_range(n, c) {
-        let k = nodes(n, c);
-        if k <= x {
-            return;
-        }
-        if x <= 2 * n {
-            return;
-        }
-        free(b, n, links(n, c), k, x);
-    }
+    free(b, n, c, x);
 }
 
 // The slot of node x, a run event's, is free.
@@ -268,18 +258,10 @@ pub fn release(b: &mut [u8], n: u16, c: u16, x: u16)
     ensures releases { λ _. ⌜ Releases n c (now (b .entry)) x (now (b .exit)) ⌝ }
     ensures spares { λ _. ⌜ Spares n c x (now (b .entry)) (now (b .exit)) ⌝ }
 {
-    if in_range(n, c) {
-        let k = nodes(n, c);
-        if k <= x {
-            return;
-        }
-        if x <= 2 * n {
-            return;
-        }
-        let l = log(n, c);
-        rings::unlink(b, l, k, x);
-        let o = links(n, c);
-        free(b, n, o, k, x);
+    let i = slot_in(b, n, c, x);
+    if i < c {
+        rings::unlink(b, log(n, c), nodes(n, c), x);
+        free(b, n, c, x);
     }
 }
 
