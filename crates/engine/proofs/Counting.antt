@@ -15,14 +15,16 @@ use Rattle.rings.specs.Ring.{headOf}
 use Rattle.rings.proofs.Places.{first-of, next-of}
 use Rattle.store.specs.Layout.{slotRow}
 use Rattle.store.proofs.RecordLaws.{event-time}
-use Rattle.index.specs.Shape.{slotOf, logAt}
+use Rattle.index.specs.Shape.{slotOf, logAt, IsSlot}
 use Rattle.index.specs.Stands.{Cell, HeldAt, Stored, Stands, hasRun, nodesBy}
 use Rattle.index.proofs.Shapes.{one}
 use Rattle.index.proofs.Slots.{held-event}
 use Rattle.index.proofs.Contents.{by-in}
 use Rattle.index.proofs.MarkLaws.{node-of}
 use Rattle.queue.specs.Holds.{Holds}
+use Rattle.queue.proofs.Splits.{middle-in}
 use Rattle.engine.specs.Steps.{eventsOf, AllRun, Counts}
+use Rattle.engine.proofs.FoundSlots.{cell-slot}
 use Rattle.engine.proofs.Fronts.{AllEarly, AllLate, parted, logged-front, run-at, early-at, length-events}
 
 -- ---- the time in a node's slot
@@ -84,8 +86,8 @@ module _ (n c : ℕ) (xs : List ℕ) (time : ℕ) where
     here : headOf (nodesBy hasRun (y ∷ left ++ back)) 0 ≡ y .node
     here = rw (run-at past y left r)
 
-    here-node : 0 < y .node
-    here-node = omega (arith, node-of past y (left ++ back) at .1)
+    here-slot : IsSlot n c (length xs) (y .node)
+    here-slot = cell-slot at y (middle-in past y (left ++ back))
 
     here-early : AllEarly time (past ++ y ∷ left) → timeAt n xs (y .node) < time
     here-early e = omega (arith, slot-time n xs y (node-of past y (left ++ back) at .0), early-at time past y left e)
@@ -123,7 +125,7 @@ module _ (n c : ℕ) (xs : List ℕ) (time : ℕ) where
 
     -- ---- it stops: no front cell is left
 
-    module _ (stops : 0 < x → timeAt n xs x < time → count < c → ⊥) where
+    module _ (stops : IsSlot n c (length xs) x → timeAt n xs x < time → count < c → ⊥) where
       all-passed : (p : Plan) (now : ℕ) (q : Queue) (front back : List Cell) → Holds p n c now xs q (front ++ back) → AllRun front → AllEarly time front
           → AllLate time back → count ≡ length front
       all-passed p now q front back H r e l =
@@ -139,7 +141,7 @@ module _ (n c : ℕ) (xs : List ℕ) (time : ℕ) where
               let u : x ≡ y .node = k ∙ here past y left back (H .stores .free) S v in
               let w = here-early past y left back (H .stores .free) S v (rw i at e) in
               absurd
-              (stops (rw u (here-node past y left back (H .stores .free) S v)) (rw u w)
+              (stops (rw u (here-slot past y left back (H .stores .free) S v)) (rw u w)
               (omega (arith, ap length i, length-append past (y ∷ left), length-append front back, H .stores .places)))
 
       pub counting-ends : Counts n c xs time count

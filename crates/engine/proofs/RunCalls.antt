@@ -1,13 +1,13 @@
 -- What run station and run lowest find in the bytes, as their promises say it.
 use mathlib.Core.Path.{_≡_, refl}
-use mathlib.Core.Logic.{_≢_}
+use mathlib.Core.Bool.{Bool, false}
 use mathlib.Core.List.{List}
 use Prim.Native.Nat.{ℕ, _+_, _≤_, _<_}
 use native.Mathlib.Omega.{arith}
 use lib.ListN.{length, getD}
 use Rattle.words.specs.Le.{loadAt}
 use Rattle.refusal.specs.declared.Refusal.{Refusal}
-use Rattle.refusal.specs.declared.Refusal.the-variants.{Idle, Count, Full}
+use Rattle.refusal.specs.declared.Refusal.the-variants.{Space, Station, Idle, Count, Full}
 use Rattle.calendar.specs.declared.Least.{Least}
 use Rattle.calendar.specs.declared.Least.the-variants.{At, Refused as NoLeast}
 use Rattle.line.specs.declared.Effect.{Effect}
@@ -19,8 +19,10 @@ use Rattle.line.specs.Station.{Plan}
 use Rattle.rules.specs.Engine.{Engine, RunStation, RunLowest, Answer, Refused}
 use Rattle.rules.specs.Calls.{lowest}
 use Rattle.rings.specs.Table.{nextOf}
-use Rattle.index.specs.Shape.{linksAt}
+use Rattle.index.specs.Shape.{linksAt, FindsSlot}
+use Rattle.queue.specs.Holds.{fitsIn}
 use Rattle.queue.specs.Steps.{Behind, Runs, Finds}
+use Rattle.queue.proofs.Fitting.{fits-gone}
 use Rattle.engine.specs.declared.RunAnswer.{RunAnswer}
 use Rattle.engine.specs.declared.RunAnswer.the-variants as N
 use Rattle.engine.specs.Represents.{Represents}
@@ -29,26 +31,44 @@ use Rattle.engine.specs.Promises.{Answered}
 use Rattle.engine.specs.Steps.{atMost, HasRoom, AddsSend, RunsAt}
 use Rattle.engine.proofs.Header.{fits-read}
 use Rattle.engine.proofs.Verdicts.{run-9, lowest-14}
-use Rattle.engine.proofs.Refusing.{refusing}
+use Rattle.engine.proofs.Refusing.{refused-so, refusing}
+use Rattle.engine.proofs.FoundSlots.{no-slot}
 use Rattle.engine.proofs.Running.{Reads, idle-so, some-waits, over-so, full-so, run-so}
 
 -- ---- once the station is known
 
-pub none-waits : {n c s x : ℕ} {xs : List ℕ} → s < n → x ≡ nextOf xs (linksAt n c) s → x ≡ s → RunsAt n c s (N.Refused Idle) xs xs
-none-waits {n} {c} {s} {x} {xs} l i z = record {
+-- no engine where the bytes are too few
+pub too-short : {n c s : ℕ} {xs : List ℕ} {r : Bool} → r ≡ fitsIn n c (length xs) → r ≡ false → RunsAt n c s (N.Refused Space) xs xs
+too-short {n} {c} {s} {xs} {r} f z = record {
   refusal = λ k q. refl;
   answer = λ p e R a b.
-      let j : x ≡ nextOf xs (linksAt (p .count) (e .capacity)) s = rw (a, b) i in
-      idle-so R (omega arith) j z;
+      let g : r ≡ fitsIn (p .count) (e .capacity) (length xs) = rw (a, b) f in
+      absurd (fits-gone g z (R .holds .stores));
 }
 
-module _ {n c s x : ℕ} {xs : List ℕ} {v : Event} {r : Ran} (G : Reads n c s x xs v r) (d : x ≢ s) where
+pub no-station : {n c s : ℕ} {xs : List ℕ} → n ≤ s → RunsAt n c s (N.Refused Station) xs xs
+no-station {s = s} h = record {
+  refusal = λ k q. refl;
+  answer = λ p e R a b. refused-so (RunStation s) 9 R (run-9 p e s (omega arith));
+}
+
+pub none-waits : {n c s x i : ℕ} {xs : List ℕ} → s < n → x ≡ nextOf xs (linksAt n c) s → FindsSlot n c (length xs) x i → c ≤ i
+    → RunsAt n c s (N.Refused Idle) xs xs
+none-waits {n} {c} {s} {x} {i} {xs} l j F h = record {
+  refusal = λ k q. refl;
+  answer = λ p e R a b.
+      let j′ : x ≡ nextOf xs (linksAt (p .count) (e .capacity)) s = rw (a, b) j in
+      let F′ : FindsSlot (p .count) (e .capacity) (length xs) x i = rw (a, b) F in
+      idle-so R (omega arith) j′ (no-slot F′ (omega arith));
+}
+
+module _ {n c s x : ℕ} {xs : List ℕ} {v : Event} {r : Ran} (G : Reads n c s x xs v r) where
   pub counts-pass : r ≡ Over → RunsAt n c s (N.Refused Count) xs xs
   counts-pass z = record {
     refusal = λ k q. refl;
     answer = λ p e R a b.
         let g : Reads (p .count) (e .capacity) s x xs v r = rw (a, b) G in
-        over-so R g (some-waits R (g .inside) (g .next) d) z;
+        over-so R g (some-waits R (g .inside) (g .next) (g .above)) z;
   }
 
   module _ (f : Effect) (t : r ≡ Done f) {room : ℕ} (h : HasRoom n c xs room) where
@@ -58,7 +78,7 @@ module _ {n c s x : ℕ} {xs : List ℕ} {v : Event} {r : Ran} (G : Reads n c s 
       answer = λ p e R a b.
           let g : Reads (p .count) (e .capacity) s x xs v r = rw (a, b) G in
           let h′ : HasRoom (p .count) (e .capacity) xs room = rw (a, b) h in
-          full-so R g (some-waits R (g .inside) (g .next) d) f t h′ k;
+          full-so R g (some-waits R (g .inside) (g .next) (g .above)) f t h′ k;
     }
 
     pub run-done : length (sent (f .first)) + length (sent (f .second)) ≤ room → ((j : ℕ) → getD xs j 0 < 256)
@@ -72,15 +92,16 @@ module _ {n c s x : ℕ} {xs : List ℕ} {v : Event} {r : Ran} (G : Reads n c s 
           let D′ : AddsSend (p .count) (e .capacity) xs (f .first) n1 k1 ys = rw (a, b) D in
           let E′ : AddsSend (p .count) (e .capacity) ys (f .second) n2 k2 zs = rw (a, b) E in
           let T′ : Runs (p .count) (e .capacity) zs x (f .state) n1 n2 us = rw (a, b) T in
-          run-so R g (some-waits R (g .inside) (g .next) d) f t h′ k low n1 k1 n2 k2 ys zs us D′ E′ T′ F;
+          run-so R g (some-waits R (g .inside) (g .next) (g .above)) f t h′ k low n1 k1 n2 k2 ys zs us D′ E′ T′ F;
     }
 
 -- ---- the two calls
 
-module _ {n c : ℕ} {xs : List ℕ} (S : n ≡ atMost 256 (loadAt 8 0 xs)) (K : c ≡ atMost 4096 (loadAt 8 8 xs)) where
-  pub no-station : (s : ℕ) → n ≤ s → Answered (RunStation s) (Refused 9) xs xs
-  no-station s h = refusing (RunStation s) 9 (λ p e R. run-9 p e s (omega (arith, fits-read R S K .0)))
+-- a line has at most 256 stations
+pub far-station : {s : ℕ} {xs : List ℕ} → 65535 < s → Answered (RunStation s) (Refused 9) xs xs
+far-station {s} h = refusing (RunStation s) 9 (λ p e R. let most = R .holds .stores .stands .stations in run-9 p e s (omega arith))
 
+module _ {n c : ℕ} {xs : List ℕ} (S : n ≡ atMost 256 (loadAt 8 0 xs)) (K : c ≡ atMost 4096 (loadAt 8 8 xs)) where
   pub station-run : {s : ℕ} {r : RunAnswer} {ys : List ℕ} → RunsAt n c s r xs ys → Answered (RunStation s) (runSaid r) xs ys
   station-run A = record { refusal = A .refusal; answer = λ p e R. A .answer p e R (fits-read R S K .0) (fits-read R S K .1) }
 
@@ -96,10 +117,12 @@ module _ {n c : ℕ} {xs : List ℕ} (S : n ≡ atMost 256 (loadAt 8 0 xs)) (K :
         refusing RunLowest 14 (λ p e R. lowest-14 p e (finds R .none p (e .now) (e .queue) (R .cells) (R .holds) y z))
 
     -- the calendar's station is one of the line
-    pub far-lowest : {s t : ℕ} (a : Answer) → r ≡ At s t → n ≤ s → Answered RunLowest a xs xs
+    pub far-lowest : {s t : ℕ} (a : Answer) → r ≡ At s t → 65535 < s → Answered RunLowest a xs xs
     far-lowest {s} {t} a z h = record {
       refusal = λ k q. refl;
-      answer = λ p e R. absurd (omega (arith, finds R .some p (e .now) (e .queue) (R .cells) (R .holds) s t z .1, fits-read R S K .0));
+      answer = λ p e R.
+          let most = R .holds .stores .stands .stations in
+          absurd (omega (arith, finds R .some p (e .now) (e .queue) (R .cells) (R .holds) s t z .1));
     }
 
     pub lowest-run : {s t : ℕ} {u : RunAnswer} {ys : List ℕ} → r ≡ At s t → RunsAt n c s u xs ys → Answered RunLowest (runSaid u) xs ys

@@ -1,9 +1,9 @@
 -- A run: each number refuses what the rules say; else the sends are added in order and the event is run.
 use mathlib.Core.Path.{_≡_, refl, sym, ap, _∙_, subst}
-use mathlib.Core.Logic.{_≢_, _⊎_, inl, inr}
+use mathlib.Core.Logic.{_⊎_, inl, inr}
 use mathlib.Core.Bool.{false}
 use mathlib.Core.List.{List, [], _++_, append-nil, List·Memᴰ}
-use Prim.Native.Nat.{ℕ, suc, _+_, _≤_, _<_}
+use Prim.Native.Nat.{ℕ, suc, _+_, _*_, _≤_, _<_}
 use native.Mathlib.Omega.{arith}
 use borrow.Author.Tests.{le-leb, lt-leb, leb-true, leb-false}
 use lib.Dec.{leb}
@@ -42,7 +42,8 @@ use Rattle.rings.specs.Table.{nextOf}
 use Rattle.store.specs.Layout.{stationRow, slotRow}
 use Rattle.store.specs.Records.{EventFits, StateFits, eventAt, stateAt, configAt}
 use Rattle.store.proofs.Fits.{event-fits, state-fits}
-use Rattle.index.specs.Shape.{linksAt, slotOf}
+use Rattle.index.specs.Shape.{linksAt, slotOf, IsSlot, FindsSlot}
+use Rattle.index.specs.Stands.{cell}
 use Rattle.queue.specs.Holds.{nonzero, Nodes, none}
 use Rattle.queue.specs.Steps.{Behind, Runs, Becomes}
 use Rattle.rollback.proofs.Cells.{held-length}
@@ -52,38 +53,40 @@ use Rattle.engine.specs.Steps.{HasRoom, AddsSend}
 use Rattle.engine.proofs.Standing.{made, invariant, neat, waiting, mid, reached-next}
 use Rattle.engine.proofs.Header.{header-kept}
 use Rattle.engine.proofs.Verdicts.{run-14, run-16, run-17, run-accepted}
+use Rattle.engine.proofs.FoundSlots.{cell-slot, slot-event}
 use Rattle.engine.proofs.Waits.{Waits, waiting-found}
 use Rattle.engine.proofs.SendFits.{sends-fit, after-fits}
 use Rattle.engine.proofs.Outcomes.{over-passes, within-is, outcomeOf, sends-few}
 use Rattle.engine.proofs.Stage.{Ready, Stage, send-more}
 use Rattle.engine.proofs.Refusing.{refused-so}
 
--- what the call reads
+-- what the call reads, where it finds a slot
 pub record Reads (n c s x : ℕ) (xs : List ℕ) (v : Event) (r : Ran) : Type 0 where
   pub inside : s < n
   pub next : x ≡ nextOf xs (linksAt n c) s
+  pub above : 2 * n < x
   pub event : v ≡ eventAt (slotRow n (slotOf n x)) xs
   pub outcome : said r ≡ counted (runAt (configAt (stationRow n s) xs) (stateAt (stationRow n s + 32) xs) v)
 
-pub reads-of : {n c s x : ℕ} {xs : List ℕ} {v : Event} {r : Ran} {g : Config} {b : State} → s < n → x ≡ nextOf xs (linksAt n c) s
-    → v ≡ eventAt (slotRow n (slotOf n x)) xs → g ≡ configAt (stationRow n s) xs → b ≡ stateAt (stationRow n s + 32) xs → said r ≡ counted (runAt g b v)
-    → Reads n c s x xs v r
-reads-of l i j k m o = record { inside = l; next = i; event = j; outcome = rw (k, m) at o }
+pub reads-of : {n c s x i : ℕ} {xs : List ℕ} {v : Event} {r : Ran} {g : Config} {b : State} → s < n → x ≡ nextOf xs (linksAt n c) s
+    → FindsSlot n c (length xs) x i → i < c → v ≡ eventAt (slotRow n i) xs → g ≡ configAt (stationRow n s) xs → b ≡ stateAt (stationRow n s + 32) xs
+    → said r ≡ counted (runAt g b v) → Reads n c s x xs v r
+reads-of {xs = xs} l i F h j k m o = record { inside = l; next = i; above = F .sound h .0 .above; event = slot-event F xs h j; outcome = rw (k, m) at o }
 
 module _ {p : Plan} {e : Engine} {xs : List ℕ} (R : Represents p e xs) {s x : ℕ} (l : s < p .count)
     (i : x ≡ nextOf xs (linksAt (p .count) (e .capacity)) s) where
-  pub idle-so : x ≡ s → P.Becomes p e (RunStation s) (Refused 14) xs
+  pub idle-so : (IsSlot (p .count) (e .capacity) (length xs) x → ⊥) → P.Becomes p e (RunStation s) (Refused 14) xs
   idle-so z = go (waiting-found s x l i (R .holds))
     where
       go : ((x ≡ s) × (leastUnrun s (e .queue .held) ≡ nothing)) ⊎ Waits (p .count) s x xs (e .queue) (R .cells) → P.Becomes p e (RunStation s) (Refused 14) xs
       go (inl w) = refused-so (RunStation s) 14 R (run-14 p e s l (w .1))
-      go (inr w) = absurd (omega (arith, w .above))
+      go (inr w) = absurd (z (cell-slot (R .holds .stores .stands) (cell x (unrun (w .waiting))) (w .at)))
 
-  pub some-waits : x ≢ s → Waits (p .count) s x xs (e .queue) (R .cells)
-  some-waits d = go (waiting-found s x l i (R .holds))
+  pub some-waits : 2 * p .count < x → Waits (p .count) s x xs (e .queue) (R .cells)
+  some-waits h = go (waiting-found s x l i (R .holds))
     where
       go : ((x ≡ s) × (leastUnrun s (e .queue .held) ≡ nothing)) ⊎ Waits (p .count) s x xs (e .queue) (R .cells) → Waits (p .count) s x xs (e .queue) (R .cells)
-      go (inl w) = absurd (d (w .0))
+      go (inl w) = absurd (omega (arith, w .0))
       go (inr w) = w
 
 module _ {p : Plan} {e : Engine} {xs : List ℕ} (R : Represents p e xs) {s x : ℕ} {v : Event} {r : Ran} (G : Reads (p .count) (e .capacity) s x xs v r)

@@ -15,12 +15,14 @@ use Rattle.rings.specs.Table.{nextOf}
 use Rattle.store.specs.Layout.{slotRow}
 use Rattle.store.specs.Records.{eventAt, putEvent, entryOf}
 use Rattle.store.proofs.Entry.{event-parts}
-use Rattle.index.specs.Shape.{slotOf, logAt}
-use Rattle.index.specs.Stands.{Cell, cell, hasRun}
+use Rattle.index.specs.Shape.{slotOf, logAt, IsSlot}
+use Rattle.index.specs.Stands.{Cell, cell, hasRun, Stands}
 use Rattle.index.proofs.Ends.{first-logged}
 use Rattle.queue.specs.Holds.{heldOf, Holds}
 use Rattle.queue.specs.Steps.{Releases}
+use Rattle.queue.proofs.Splits.{middle-in}
 use Rattle.engine.specs.Steps.{eventsOf, AllRun, Writes}
+use Rattle.engine.proofs.FoundSlots.{cell-slot}
 use Rattle.engine.proofs.Fronts.{run-at, length-events}
 
 -- ---- the output
@@ -91,6 +93,12 @@ module _ (n c : ℕ) (xs : List ℕ) (count : ℕ) (output : List ℕ) where
   unfolding entries
   writing-start p now q front back I H r l w = record { past = []; rest = front; is = refl; size = refl; holds = queue-of H; output-is = refl }
 
+  -- the log's first is the first cell, a run one
+  first-is : (z : ℕ) (h : Held) (cells : List Cell) (ys : List ℕ) (x : ℕ) {free : List ℕ} → hasRun h ≡ true → Stands n c ys (cell z h ∷ cells) free
+      → (n ≤ 256 → c ≤ 4096 → x ≡ nextOf ys (logAt n c) 0) → x ≡ z
+  first-is z (unrun v) cells ys x t S f = absurd (true≢false (sym t))
+  first-is z (ran v b) cells ys x t S f = f (S .stations) (S .capacity) ∙ first-logged [] cells z v b S tt
+
   -- ---- one more
 
   -- the first cell's event is read, and the others are left
@@ -101,7 +109,7 @@ module _ (n c : ℕ) (xs : List ℕ) (count : ℕ) (output : List ℕ) where
   step p now q z (unrun v) cells ys zs x e t I H f g R = absurd (true≢false (sym t))
   step p now q z (ran v b) cells ys zs x e t I H f g R =
       let S = H .stores .stands in
-      let k : x ≡ z = f (S .stations) (S .capacity) ∙ first-logged [] cells z v b S tt in (
+      let k : x ≡ z = first-is z (ran v b) cells ys x t S f in (
         g ∙ ap (λ (i : ℕ). eventAt (slotRow n (slotOf n i)) ys) k ∙ S .stored .0 .0,
         R p now (record { states = q .states; held = ran v b ∷ heldOf cells }) cells v b I (rw k H),
       )
@@ -133,6 +141,20 @@ module _ (n c : ℕ) (xs : List ℕ) (count : ℕ) (output : List ℕ) where
               holds = d .1;
               output-is = a ∙ b ∙ ap (λ (l : List Event). written l output) u;
             }
+
+    -- ---- the first has a slot, so the search finds it
+
+    pub writing-stops : {x : ℕ} → k < count → (n ≤ 256 → c ≤ 4096 → x ≡ nextOf ys (logAt n c) 0) → (IsSlot n c (length ys) x → ⊥)
+        → Writes n c xs count output ys left
+    writing-stops {x} h f none p now q front back I H r l w =
+        let d = W p now q front back I H r l w in
+        absurd (go (d .past) (d .rest) (d .is) (d .size) (d .holds .stores .stands))
+      where
+        go : (past rest : List Cell) {free : List ℕ} → front ≡ past ++ rest → length past ≡ k → Stands n c ys (rest ++ back) free → ⊥
+        go past [] i s S = omega (arith, ap length (i ∙ append-nil past))
+        go past (y ∷ rest) i s S =
+            let u : x ≡ y .node = first-is (y .node) (y .held) (rest ++ back) ys x (run-at past y rest (rw i at r)) S f in
+            none (rw u (cell-slot S y (middle-in [] y (rest ++ back))))
 
     -- ---- all
 

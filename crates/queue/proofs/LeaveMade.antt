@@ -1,9 +1,8 @@
 -- An event leaves by the code of `discard` and of `release`, from what their calls promise.
 use mathlib.Core.Path.{_≡_, _∙_, subst}
 use mathlib.Core.Logic.{_≢_}
-use mathlib.Core.Bool.{Bool, true}
 use mathlib.Core.List.{List}
-use Prim.Native.Nat.{ℕ, _+_, _*_, _≤_, _<_}
+use Prim.Native.Nat.{ℕ, _+_, _≤_}
 use native.Mathlib.Omega.{arith}
 use lib.ListN.{length}
 use Rattle.words.specs.Le.{loadAt}
@@ -11,14 +10,12 @@ use Rattle.line.specs.declared.Event.{Event}
 use Rattle.rules.specs.Held.{unrun}
 use Rattle.store.specs.Layout.{slotRow}
 use Rattle.store.specs.Records.{eventAt}
-use Rattle.index.specs.Shape.{nodesOf, slotOf}
+use Rattle.index.specs.Shape.{slotOf, IsSlot}
 use Rattle.index.specs.Slots.{Spares, Sets}
 use Rattle.index.specs.Stands.{Drops}
 use Rattle.index.specs.Stands.{Releases as IndexReleases}
-use Rattle.queue.specs.Holds.{fitsIn}
 use Rattle.queue.specs.Count.{runsBelow}
 use Rattle.queue.specs.Steps.{Behind, Tells, Leaves, Releases}
-use Rattle.queue.proofs.Fitting.{fits-true}
 use Rattle.queue.proofs.Behinds.{behind, behind-same, behind-on}
 use Rattle.queue.proofs.Counts.{runs-most}
 use Rattle.queue.proofs.Leaving.{leaves, releases}
@@ -34,27 +31,29 @@ release-made n c x I = (behind (omega arith) (I .0), releases n c x (I .0) (I .1
 -- ---- discard
 
 module _ (n c x : ℕ) where
-  pub discard-made : (e : Event) {v : Bool} {xs ys zs : List ℕ} → v ≡ fitsIn n c (length xs) → v ≡ true → 2 * n < x → x < nodesOf n c
-      → e ≡ eventAt (slotRow n (slotOf n x)) xs
+  pub discard-made : (e : Event) {i : ℕ} {xs ys zs : List ℕ} → IsSlot n c (length xs) x × (i ≡ slotOf n x) → e ≡ eventAt (slotRow n i) xs
       → Indexed n c xs ys × (Drops n c xs x ys × (Spares n c x xs ys × Sets n c x 0 xs ys)) → Told n c (e .target) ys zs
       → Behind xs zs × ((runsBelow n zs c ≤ runsBelow n xs c) × Leaves n c xs x zs)
-  discard-made e {v} {xs} {ys} {zs} k t low high q I T = (
+  discard-made e {i} {xs} {ys} {zs} s q I T = (
     behind-on (behind (omega arith) (I .0)) (behind (omega arith) (T .0)),
-    (runs-most n xs zs (slotOf n x) left c (λ i l d. told-status n c T i ∙ I .1 .1 .0 .statuses i l d), gone),
+    (runs-most n xs zs (slotOf n x) left c (λ j l d. told-status n c T j ∙ I .1 .1 .0 .statuses j l d), gone),
   )
     where
-      w : (n ≤ 256) × (c ≤ 4096) × (32768 + 256 * n + 256 * c ≤ length xs)
-      w = fits-true n c (length xs) k t
+      zeroed : loadAt 2 (slotRow n (slotOf n x) + 60) ys ≡ 0
+      zeroed = I .1 .1 .1 (s .0)
 
       zero-is : loadAt 2 (slotRow n (slotOf n x) + 60) zs ≡ 0
-      zero-is = told-status n c T (slotOf n x) ∙ I .1 .1 .1 (w .0) (w .1) low high (omega (arith, w .2))
+      zero-is = told-status n c T (slotOf n x) ∙ zeroed
+
+      event-there : e ≡ eventAt (slotRow n (slotOf n x)) xs
+      event-there = rw (s .1) at q
 
       left : loadAt 2 (slotRow n (slotOf n x) + 60) zs ≢ 2
       left z = omega (arith, zero-is, z)
 
       gone : Leaves n c xs x zs
       gone p now r cells f H m un =
-          let z : e ≡ f = q ∙ event-is n c x xs (unrun f) (H .stores) m in
+          let z : e ≡ f = event-there ∙ event-is n c x xs (unrun f) (H .stores) m in
           leaves n c x (I .0) (I .1 .1 .0) f (I .1 .0) (subst (λ g. Tells n c (g .target) ys zs) z (T .1)) p now r cells H m un
 
   pub discard-none : (xs : List ℕ) → Nowhere n c xs x → Behind xs xs × ((runsBelow n xs c ≤ runsBelow n xs c) × Leaves n c xs x xs)

@@ -37,13 +37,13 @@ module _ (n c x : ℕ) (after : State) (first second : ℕ) where
       ∙ ap length ea ∙ length-store 2 (slotRow n i + 56 + 2 * 0) first xs
 
   pub run-made : (e : Event) (v : State) {i : ℕ} {xs us bs ys ds zs : List ℕ} → first < 65536 → second < 65536
-      → e ≡ eventAt (slotRow n (slotOf n x)) xs → e .target < n → i ≡ slotOf n x → v ≡ stateAt (stationRow n (e .target) + 32) xs
+      → i ≡ slotOf n x → e ≡ eventAt (slotRow n i) xs → e .target < n → v ≡ stateAt (stationRow n (e .target) + 32) xs
       → ((j : ℕ) → getD xs j 0 < 256)
       → us ≡ storeAt 2 (slotRow n i + 56 + 2 * 0) first xs → bs ≡ storeAt 2 (slotRow n i + 56 + 2 * 1) second us
       → Indexed n c bs ys × (Marks n c bs x v ys × Spares n c x bs ys)
       → ds ≡ putState (stationRow n (e .target) + 32) after ys → Told n c (e .target) ds zs
       → Behind xs zs × Runs n c xs x after first second zs
-  run-made e v {i} {xs} {us} {bs} {ys} {ds} {zs} small small2 ee l ei ev bytes ea eb I ed T = (
+  run-made e v {i} {xs} {us} {bs} {ys} {ds} {zs} small small2 ei ee l ev bytes ea eb I ed T = (
     behind-on (behind (omega arith) sent)
         (behind-on (behind (omega arith) sent2) (behind-on (behind (omega arith) (I .0)) (behind-on (behind (omega arith) set) (behind (omega arith) (T .0))))),
     ran-on,
@@ -61,6 +61,9 @@ module _ (n c x : ℕ) (after : State) (first second : ℕ) where
       noted : bs ≡ notedIn n x first second xs
       noted = eb ∙ rw (ea, ei)
 
+      event-there : e ≡ eventAt (slotRow n (slotOf n x)) xs
+      event-there = rw ei at ee
+
       fits : StateFits v
       fits = rw ev (state-fits (stationRow n (e .target) + 32) xs bytes)
 
@@ -75,7 +78,7 @@ module _ (n c x : ℕ) (after : State) (first second : ℕ) where
 
       ran-on : Runs n c xs x after first second zs
       ran-on p now q cells f H m least later _ room nodes =
-          let y : e ≡ f = ee ∙ event-is n c x xs (unrun f) (H .stores) m in
+          let y : e ≡ f = event-there ∙ event-is n c x xs (unrun f) (H .stores) m in
           let z : v ≡ q .states (e .target) = ev ∙ H .stores .states (e .target) l in
           subst (λ g. On p now q cells g (q .states (g .target))) y
           (subst (λ a. On p now q cells e a) z

@@ -17,20 +17,19 @@ use Rattle.store.specs.Layout.{stationRow, slotRow}
 use Rattle.store.specs.Records.{eventAt, stateAt, putState, StateFits}
 use Rattle.store.proofs.RecordLaws.{length-state}
 use Rattle.store.proofs.Fits.{state-fits}
-use Rattle.index.specs.Shape.{nodesOf, slotOf}
+use Rattle.index.specs.Shape.{slotOf, IsSlot}
 use Rattle.index.specs.Slots.{Spares, Sets}
 use Rattle.index.specs.Stands.{Cell, cell, Unmarks}
 use Rattle.index.proofs.Slots.{state-frame}
-use Rattle.queue.specs.Holds.{fitsIn, Has, Stores}
+use Rattle.queue.specs.Holds.{Has, Stores}
 use Rattle.queue.specs.Count.{runsBelow}
 use Rattle.queue.specs.Steps.{Behind, Becomes, Tells, Unruns, NoneWaits}
-use Rattle.queue.proofs.Fitting.{fits-true}
 use Rattle.queue.proofs.Behinds.{behind, behind-same, behind-on}
 use Rattle.queue.proofs.Members.{member}
 use Rattle.queue.proofs.Counts.{runs-less}
 use Rattle.queue.proofs.Unrunning.{unruns}
 use Rattle.queue.proofs.Promises.{Told, Indexed, told-status}
-use Rattle.queue.proofs.Nowhere.{Nowhere, event-is, nowhere-target}
+use Rattle.queue.proofs.Nowhere.{Nowhere, event-is}
 
 -- what the code has after its calls
 abbrev pub UnrunEnd : ℕ → ℕ → ℕ → List ℕ → Bool → List ℕ → Type 0
@@ -42,24 +41,21 @@ status-at : (n : ℕ) {i j k : ℕ} (xs : List ℕ) → i ≡ j → k ≡ loadAt
 status-at n {i} {j} xs e h = h ∙ ap (λ (a : ℕ). loadAt 2 a xs) (omega arith)
 
 module _ (n c x : ℕ) where
-  pub unrun-made : (e : Event) (b : State) {v : Bool} {i k : ℕ} {xs ys us zs : List ℕ} → v ≡ fitsIn n c (length xs) → v ≡ true → 2 * n < x
-      → x < nodesOf n c → i ≡ slotOf n x → k ≡ loadAt 2 (slotRow n i + 56 + 2 * 2) xs → k ≡ 2 → e ≡ eventAt (slotRow n i) xs → e .target < n
+  pub unrun-made : (e : Event) (b : State) {i k : ℕ} {xs ys us zs : List ℕ} → IsSlot n c (length xs) x × (i ≡ slotOf n x)
+      → k ≡ loadAt 2 (slotRow n i + 56 + 2 * 2) xs → k ≡ 2 → e ≡ eventAt (slotRow n i) xs → e .target < n
       → b ≡ stateAt (slotRow n i + 24) xs → ((j : ℕ) → getD xs j 0 < 256)
       → Indexed n c xs ys × (Unmarks n c xs x ys
       × (Spares n c x xs ys × (eventAt (slotRow n (slotOf n x)) xs .target < n → Sets n c x 1 xs ys)))
       → us ≡ putState (stationRow n (e .target) + 32) b ys → Told n c (e .target) us zs
       → UnrunEnd n c x xs true zs
-  unrun-made e b {v} {i} {k} {xs} {ys} {us} {zs} fe ft low high ei ek two ee l eb bytes I ea T = (
+  unrun-made e b {i} {k} {xs} {ys} {us} {zs} s ek two ee l eb bytes I ea T = (
     behind-on (behind (omega arith) (I .0)) (behind-on (behind (omega arith) set) (behind (omega arith) (T .0))),
     (
       (λ z. absurd (true≢false z)),
-      ((λ _. runs-less n xs zs (slotOf n x) left c (omega arith) status-two (λ j h d. status j ∙ I .1 .1 .0 .statuses j h d)), back),
+      ((λ _. runs-less n xs zs (slotOf n x) left c (omega (arith, s .0 .above, s .0 .below)) status-two (λ j h d. status j ∙ I .1 .1 .0 .statuses j h d)), back),
     ),
   )
     where
-      w : (n ≤ 256) × (c ≤ 4096) × (32768 + 256 * n + 256 * c ≤ length xs)
-      w = fits-true n c (length xs) fe ft
-
       set : Frame (stationRow n (e .target) + 32) 20 ys us
       set = rw ea (state-frame (stationRow n (e .target) + 32) b ys)
 
@@ -67,21 +63,26 @@ module _ (n c x : ℕ) where
       status j = told-status n c T j ∙ set .loads 2 (slotRow n j + 60) (inl (omega arith))
 
       event-there : e ≡ eventAt (slotRow n (slotOf n x)) xs
-      event-there = rw ei at ee
+      event-there = rw (s .1) at ee
+
+      -- the station that the code has read is that of the slot's event
+      at-station : eventAt (slotRow n (slotOf n x)) xs .target < n
+      at-station = subst (λ (f : Event). f .target < n) event-there l
+
+      unmarked : loadAt 2 (slotRow n (slotOf n x) + 60) ys ≡ 1
+      unmarked = I .1 .1 .1 at-station (s .0)
 
       one-is : loadAt 2 (slotRow n (slotOf n x) + 60) zs ≡ 1
-      one-is =
-          status (slotOf n x)
-          ∙ I .1 .1 .1 (subst (λ (f : Event). f .target < n) event-there l) (w .0) (w .1) low high (omega (arith, w .2))
+      one-is = status (slotOf n x) ∙ unmarked
 
       left : loadAt 2 (slotRow n (slotOf n x) + 60) zs ≢ 2
       left z = omega (arith, one-is, z)
 
       status-two : loadAt 2 (slotRow n (slotOf n x) + 60) xs ≡ 2
-      status-two = sym (status-at n xs ei ek) ∙ two
+      status-two = sym (status-at n xs (s .1) ek) ∙ two
 
       state-there : b ≡ stateAt (slotRow n (slotOf n x) + 24) xs
-      state-there = rw ei at eb
+      state-there = rw (s .1) at eb
 
       fits : StateFits b
       fits = rw state-there (state-fits (slotRow n (slotOf n x) + 24) xs bytes)
@@ -117,9 +118,6 @@ module _ (n c x : ℕ) where
   pub unrun-other : {i k : ℕ} (xs : List ℕ) → i ≡ slotOf n x → k ≡ loadAt 2 (slotRow n i + 56 + 2 * 2) xs → k ≢ 2 → UnrunEnd n c x xs false xs
   unrun-other {i} {k} xs ei ek d =
       unrun-none xs (λ p now q cells e b S m. d (status-at n xs ei ek ∙ member (S .stands) (cell x (ran e b)) m .0 .1))
-
-  pub unrun-target : {i : ℕ} {e : Event} (xs : List ℕ) → i ≡ slotOf n x → e ≡ eventAt (slotRow n i) xs → n ≤ e .target → UnrunEnd n c x xs false xs
-  unrun-target {i} {e} xs ei ee l = unrun-nowhere xs (nowhere-target n c x xs {e = e} (rw ei at ee) l)
 
 pub unrun-size : (n c t : ℕ) (b : State) (xs : List ℕ) {ys us : List ℕ} → Indexed n c xs ys → us ≡ putState (stationRow n t + 32) b ys
     → length us ≡ length xs

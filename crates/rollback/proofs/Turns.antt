@@ -53,9 +53,10 @@ abbrev Ended : ℕ → ℕ → ℕ → Event → List ℕ → Type 0
 Ended n c s e ys =
     (p : Plan) (now : ℕ) (q : Queue) (cells : List Cell) (ws : List Event) (st : States) → Mid p n c now ys q cells ws st → Clear s e (q .held)
 
--- the code's test, of the event that it has read
-pub test-at : (e : Event) {f g : Event} {u v : Bool} → f ≡ g → u ≡ before f e → u ≡ v → before g e ≡ v
-test-at e i j k = ap (λ f. before f e) (sym i) ∙ sym j ∙ k
+-- the code's test, of the event in the slot that it has found
+pub test-at : (n x : ℕ) (ys : List ℕ) (e : Event) {i : ℕ} {u v : Bool} → i ≡ slotOf n x → u ≡ before (eventAt (slotRow n i) ys) e → u ≡ v
+    → before (eventAt (slotRow n (slotOf n x)) ys) e ≡ v
+test-at n x ys e a j k = ap (λ (i : ℕ). before (eventAt (slotRow n i) ys) e) (sym a) ∙ sym j ∙ k
 
 module _ {n c s : ℕ} {ys : List ℕ} (l : s < n) where
   topmost : {x : ℕ} → x ≡ prevOf ys (linksAt n c) (n + s)

@@ -2,6 +2,7 @@
 use Prim.Native.Nat.{_-_, _≤_}
 use native.Mathlib.Omega.{arith}
 use borrow.Author.Needs.{needs}
+use Rattle.engine.proofs.FoundSlots.{no-slot}
 use Rattle.engine.proofs.Counting.{Counting, counting-start, counting-on, counting-ends, read-time}
 use Rattle.engine.proofs.count_before.Statement.{statement}
 use Rattle.engine.proofs.count_before.Tie as tie
@@ -20,15 +21,16 @@ loop-holds c =
     let args = c .before .before .args in
     (omega arith, counting-start (args .n) (args .c) (args .b .now) (args .time) (c .next-logged .ensures))
 
+slot-in-requires : tie.Need-slot-in-requires Inv-loop μ-loop
+slot-in-requires c κs = search needs
+
 returns : tie.Need-returns Inv-loop μ-loop
 returns c =
-    let l = c .before .before in
+    let l = c .before .before .before in
     let args = l .before .before .before .args in
     let inv = l .loop .inv in
-    (inv .0, counting-ends (args .n) (args .c) (args .b .now) (args .time) (inv .1) (λ some early more. omega (arith, some, c .if1 .taken)))
-
-slot-requires : tie.Need-slot-requires Inv-loop μ-loop
-slot-requires c κs = search needs
+    let none = no-slot (c .before .slot-in .ensures) (c .if1 .taken) in
+    (inv .0, counting-ends (args .n) (args .c) (args .b .now) (args .time) (inv .1) (λ some early more. none some))
 
 time-requires : tie.Need-time-requires Inv-loop μ-loop
 time-requires c κs = search needs
@@ -38,7 +40,8 @@ returns-2 c =
     let l = c .before .before .before .before .before in
     let args = l .before .before .before .args in
     let inv = l .loop .inv in
-    let read = read-time (args .n) (l .loop .x) (args .b .now) (c .before .before .slot .ensures) (c .before .time .ensures) in
+    let slot = c .before .before .before .slot-in .ensures .sound (c .before .before .if1 .left) in
+    let read = read-time (args .n) (l .loop .x) (args .b .now) (slot .1) (c .before .time .ensures) in
     (inv .0, counting-ends (args .n) (args .c) (args .b .now) (args .time) (inv .1) (λ some early more. omega (arith, read, early, c .if2 .taken)))
 
 next-logged-requires-2 : tie.Need-next-logged-requires-2 Inv-loop μ-loop
@@ -56,11 +59,12 @@ loop-again c =
     let args = l .before .before .before .args in
     let inv = l .loop .inv in
     let more = c .before .before .before .before .before .loop-test .taken in
-    let some = c .before .before .before .before .if1 .left in
-    let read = read-time (args .n) (l .loop .x) (args .b .now) (c .before .before .before .slot .ensures) (c .before .before .time .ensures) in
+    let slot = c .before .before .before .before .slot-in .ensures .sound (c .before .before .before .if1 .left) in
+    let read = read-time (args .n) (l .loop .x) (args .b .now) (slot .1) (c .before .before .time .ensures) in
     let early = c .before .if2 .left in (
       omega (arith, more),
-      counting-on (args .n) (args .c) (args .b .now) (args .time) (inv .1) some (omega (arith, read, early)) (c .next-logged2 .ensures),
+      counting-on (args .n) (args .c) (args .b .now) (args .time) (inv .1) (λ z. omega (arith, z, slot .0 .above)) (omega (arith, read, early))
+          (c .next-logged2 .ensures),
     )
 
 returns-3 : tie.Need-returns-3 Inv-loop μ-loop
@@ -78,8 +82,8 @@ count-before-spec =
     μ-loop
     next-logged-requires
     loop-holds
+    slot-in-requires
     returns
-    slot-requires
     time-requires
     returns-2
     next-logged-requires-2

@@ -1,25 +1,44 @@
 -- The tests are those of the rules, in their order; then the sends are added and the event is run.
 use native.Mathlib.Omega.{arith}
+use borrow.Author.Tests.{not-true}
 use Rattle.rollback.proofs.Behinds.{behind-on}
 use Rattle.engine.proofs.Outcomes.{two-sends}
 use Rattle.engine.proofs.Running.{reads-of}
-use Rattle.engine.proofs.RunCalls.{none-waits, counts-pass, places-few, run-done}
+use Rattle.engine.proofs.RunCalls.{too-short, no-station, none-waits, counts-pass, places-few, run-done}
 use borrow.Author.Needs.{needs}
 use Rattle.engine.proofs.run_at.Statement.{statement}
 use Rattle.engine.proofs.run_at.Tie as tie
 
-next-requires : tie.Need-next-requires
-next-requires c κs = search needs
+fits-requires : tie.Need-fits-requires
+fits-requires c κs = search needs
 
 same-length : tie.Need-same-length
 same-length c = search needs
 
 returns : tie.Need-returns
-returns c =
-    let if1 = c .if1 in
-    let next = c .before .next in
-    let pre = c .before .before .before .before .pre in
-    none-waits (pre .2) (next .ensures) (if1 .taken)
+returns c = too-short (c .before .fits2 .ensures) (not-true _ (c .if1 .taken))
+
+same-length-2 : tie.Need-same-length-2
+same-length-2 c = search needs
+
+returns-2 : tie.Need-returns-2
+returns-2 c = no-station (c .if2 .taken)
+
+next-requires : tie.Need-next-requires
+next-requires c κs = search needs
+
+slot-in-requires : tie.Need-slot-in-requires
+slot-in-requires c κs = search needs
+
+same-length-3 : tie.Need-same-length-3
+same-length-3 c = search needs
+
+returns-3 : tie.Need-returns-3
+returns-3 c =
+    let slot-in = c .before .slot-in in
+    let next = c .before .before .before .next in
+    let if2 = c .before .before .before .before .before .if2 in
+    none-waits (if2 .left) (next .ensures) (slot-in .ensures) (c .if3 .taken)
 
 event-requires : tie.Need-event-requires
 event-requires c κs = search needs
@@ -39,28 +58,29 @@ enum-known-effect c = search needs
 enum-told : tie.Need-enum-told
 enum-told c = search needs
 
-same-length-2 : tie.Need-same-length-2
-same-length-2 c = search needs
+same-length-4 : tie.Need-same-length-4
+same-length-4 c = search needs
 
-returns-2 : tie.Need-returns-2
-returns-2 c =
-    let enum-told = c .enum-told in
+returns-4 : tie.Need-returns-4
+returns-4 c =
+    let back = c .before .before .before .before .before .before .before .before .before .before .before .before in
     let run-event = c .before .before .run-event in
     let state = c .before .before .before .state in
     let config = c .before .before .before .before .before .config in
     let event = c .before .before .before .before .before .before .before .event in
-    let if1 = c .before .before .before .before .before .before .before .before .before .if1 in
-    let next = c .before .before .before .before .before .before .before .before .before .before .next in
-    let back = c .before .before .before .before .before .before .before .before .before .before .before .before in
-    let pre = back .before .pre in
-    counts-pass (reads-of (pre .2) (next .ensures) (event .ensures) (config .ensures) (state .ensures) (run-event .ensures)) (if1 .left)
-    (enum-told .given .1)
+    let if3 = c .before .before .before .before .before .before .before .before .before .if3 in
+    let slot-in = c .before .before .before .before .before .before .before .before .before .before .slot-in in
+    let next = back .next in
+    let if2 = back .before .before .if2 in
+    counts-pass (reads-of (if2 .left) (next .ensures) (slot-in .ensures) (if3 .left) (event .ensures) (config .ensures) (state .ensures) (run-event .ensures))
+    (c .enum-told .given .1)
 
 free-places-requires : tie.Need-free-places-requires
 free-places-requires c κs =
     let back = c .before .before .before .before .before .before .before .before .before .before .before .before in
-    let pre = back .before .before .before .before .pre in
-    pre .0
+    let if3 = back .if3 in
+    let slot-in = back .before .slot-in in
+    slot-in .ensures .sound (if3 .left) .0 .stations
 
 sends-requires : tie.Need-sends-requires
 sends-requires c κs = search needs
@@ -68,33 +88,29 @@ sends-requires c κs = search needs
 sends-requires-2 : tie.Need-sends-requires-2
 sends-requires-2 c κs = search needs
 
-add-if2 : tie.Need-add-if2
-add-if2 c =
-    let sends2 = c .sends2 in
-    let sends = c .before .sends in
-    let effect = c .before .before .before .before .before .before .effect in
-    omega (arith, two-sends (effect .given .1) (sends .ensures) (sends2 .ensures))
+add-if4 : tie.Need-add-if4
+add-if4 c = omega (arith, two-sends (c .before .before .before .before .before .before .effect .given .1) (c .before .sends .ensures) (c .sends2 .ensures))
 
-same-length-3 : tie.Need-same-length-3
-same-length-3 c = search needs
+same-length-5 : tie.Need-same-length-5
+same-length-5 c = search needs
 
-returns-3 : tie.Need-returns-3
-returns-3 c =
-    let if2 = c .if2 in
+returns-5 : tie.Need-returns-5
+returns-5 c =
+    let back = c .before .before .before .before .before .before .before .before .before .before .before .before in
     let sends2 = c .before .sends2 in
     let sends = c .before .before .sends in
     let free-places = c .before .before .before .free-places in
     let effect = c .before .before .before .before .before .before .before .effect in
     let run-event = c .before .before .before .before .before .before .before .before .before .run-event in
     let state = c .before .before .before .before .before .before .before .before .before .before .state in
-    let config = c .before .before .before .before .before .before .before .before .before .before .before .before .config in
-    let back = c .before .before .before .before .before .before .before .before .before .before .before .before in
+    let config = back .config in
     let event = back .before .before .event in
-    let if1 = back .before .before .before .before .if1 in
-    let next = back .before .before .before .before .before .next in
-    let pre = back .before .before .before .before .before .before .before .before .pre in
-    places-few (reads-of (pre .2) (next .ensures) (event .ensures) (config .ensures) (state .ensures) (run-event .ensures)) (if1 .left) _
-    (effect .given .1) (free-places .ensures) (omega (arith, if2 .taken, sends .ensures, sends2 .ensures))
+    let if3 = back .before .before .before .before .if3 in
+    let slot-in = back .before .before .before .before .before .slot-in in
+    let next = back .before .before .before .before .before .before .before .next in
+    let if2 = back .before .before .before .before .before .before .before .before .before .if2 in
+    places-few (reads-of (if2 .left) (next .ensures) (slot-in .ensures) (if3 .left) (event .ensures) (config .ensures) (state .ensures) (run-event .ensures)) _
+    (effect .given .1) (free-places .ensures) (omega (arith, c .if4 .taken, sends .ensures, sends2 .ensures))
 
 add-send-requires : tie.Need-add-send-requires
 add-send-requires c κs = search needs
@@ -105,67 +121,76 @@ add-send-requires-2 c κs = search needs
 run-requires : tie.Need-run-requires
 run-requires c κs = search needs
 
-add-t42 : tie.Need-add-t42
-add-t42 c =
-    let add-send2 = c .before .before .before .before .before .before .before .before .add-send2 in
-    let add-send = c .before .before .before .before .before .before .before .before .before .before .before .before .add-send in
+add-t50 : tie.Need-add-t50
+add-t50 c =
     let back = c .before .before .before .before .before .before .before .before .before .before .before .before in
     let back2 = back .before .before .before .before .before .before .before .before .before .before .before .before in
-    let pre = back2 .before .before .before .before .before .before .before .before .before .before .pre in
-    omega (arith, add-send .ensures .1 .0, add-send2 .ensures .1 .0, pre .1)
+    let add-send2 = c .before .before .before .before .before .before .before .before .add-send2 in
+    let add-send = back .add-send in
+    let if3 = back2 .before .before .before .before .before .before .if3 in
+    let slot-in = back2 .before .before .before .before .before .before .before .slot-in in
+    let slot = slot-in .ensures .sound (if3 .left) .0 in omega (arith, add-send .ensures .1 .0, add-send2 .ensures .1 .0, slot .capacity)
 
-same-length-4 : tie.Need-same-length-4
-same-length-4 c = search needs
+same-length-6 : tie.Need-same-length-6
+same-length-6 c = search needs
 
-returns-4 : tie.Need-returns-4
-returns-4 c =
+returns-6 : tie.Need-returns-6
+returns-6 c =
+    let back = c .before .before .before .before .before .before .before .before .before .before .before .before in
+    let back2 = back .before .before .before .before .before .before .before .before .before .before .before .before in
+    let back3 = back2 .before .before .before .before .before .before .before .before .before .before .before .before in
     let run = c .before .before .before .before .run in
     let add-send2 = c .before .before .before .before .before .before .before .before .add-send2 in
-    let add-send = c .before .before .before .before .before .before .before .before .before .before .before .before .add-send in
-    let back = c .before .before .before .before .before .before .before .before .before .before .before .before in
-    let if2 = back .before .before .if2 in
+    let add-send = back .add-send in
+    let if4 = back .before .before .if4 in
     let sends2 = back .before .before .before .sends2 in
     let sends = back .before .before .before .before .sends in
     let free-places = back .before .before .before .before .before .free-places in
     let effect = back .before .before .before .before .before .before .before .before .before .effect in
     let run-event = back .before .before .before .before .before .before .before .before .before .before .before .run-event in
-    let state = back .before .before .before .before .before .before .before .before .before .before .before .before .state in
-    let back2 = back .before .before .before .before .before .before .before .before .before .before .before .before in
+    let state = back2 .state in
     let config = back2 .before .before .config in
     let event = back2 .before .before .before .before .event in
-    let if1 = back2 .before .before .before .before .before .before .if1 in
-    let next = back2 .before .before .before .before .before .before .before .next in
-    let slice-known = back2 .before .before .before .before .before .before .before .before .before .slice-known in
-    let pre = back2 .before .before .before .before .before .before .before .before .before .before .pre in
-    run-done (reads-of (pre .2) (next .ensures) (event .ensures) (config .ensures) (state .ensures) (run-event .ensures)) (if1 .left) _
-    (effect .given .1) (free-places .ensures) (omega (arith, if2 .left, sends .ensures, sends2 .ensures)) (λ j. omega (arith, slice-known .given j)) _
-    _ _ _ _ _ _ (add-send .ensures .1 .1) (add-send2 .ensures .1 .1) (run .ensures .1)
+    let if3 = back2 .before .before .before .before .before .before .if3 in
+    let slot-in = back2 .before .before .before .before .before .before .before .slot-in in
+    let next = back2 .before .before .before .before .before .before .before .before .before .next in
+    let if2 = back2 .before .before .before .before .before .before .before .before .before .before .before .if2 in
+    let slice-known = back3 .before .before .before .slice-known in
+    run-done (reads-of (if2 .left) (next .ensures) (slot-in .ensures) (if3 .left) (event .ensures) (config .ensures) (state .ensures) (run-event .ensures)) _
+    (effect .given .1) (free-places .ensures) (omega (arith, if4 .left, sends .ensures, sends2 .ensures)) (λ j. omega (arith, slice-known .given j)) _ _ _ _ _ _
+    _ (add-send .ensures .1 .1) (add-send2 .ensures .1 .1) (run .ensures .1)
     (behind-on (add-send .ensures .0) (behind-on (add-send2 .ensures .0) (run .ensures .0)))
 
 pub run-at-spec : {M : Type 1} → statement M
 run-at-spec =
     tie.close
     (tie.spec
-    next-requires
+    fits-requires
     same-length
     returns
+    same-length-2
+    returns-2
+    next-requires
+    slot-in-requires
+    same-length-3
+    returns-3
     event-requires
     config-requires
     state-requires
     run-event-requires
     enum-known-effect
     enum-told
-    same-length-2
-    returns-2
+    same-length-4
+    returns-4
     free-places-requires
     sends-requires
     sends-requires-2
-    add-if2
-    same-length-3
-    returns-3
+    add-if4
+    same-length-5
+    returns-5
     add-send-requires
     add-send-requires-2
     run-requires
-    add-t42
-    same-length-4
-    returns-4)
+    add-t50
+    same-length-6
+    returns-6)

@@ -1,8 +1,5 @@
 -- The calendar's station is run.
-use borrow.Author.Tests.{not-true, not-false}
-use denote.Ref.{now}
-use lib.ListN.{length}
-use Rattle.queue.proofs.Fitting.{fits-true}
+use borrow.Author.Tests.{not-true}
 use Rattle.engine.proofs.Unfit.{unfit-call}
 use Rattle.engine.proofs.RunCalls.{none-lowest, far-lowest, lowest-run}
 use borrow.Author.Needs.{needs}
@@ -23,11 +20,10 @@ same-length c = search needs
 
 returns : tie.Need-returns
 returns c =
-    let if1 = c .if1 in
     let fits2 = c .before .fits2 in
     let capacity = c .before .before .before .capacity in
     let stations = c .before .before .before .before .before .stations in
-    unfit-call (stations .ensures) (capacity .ensures) (fits2 .ensures) (not-true _ (if1 .taken))
+    unfit-call (stations .ensures) (capacity .ensures) (fits2 .ensures) (not-true _ (c .if1 .taken))
 
 lowest-requires : tie.Need-lowest-requires
 lowest-requires c κs = search needs
@@ -43,51 +39,37 @@ same-length-2 c = search needs
 
 returns-2 : tie.Need-returns-2
 returns-2 c =
-    let enum-told = c .enum-told in
     let lowest = c .before .before .lowest in
     let capacity = c .before .before .before .before .before .before .before .capacity in
     let stations = c .before .before .before .before .before .before .before .before .before .stations in
-    none-lowest (stations .ensures) (capacity .ensures) (lowest .ensures) (enum-told .given .1)
-
-cast-if2 : tie.Need-cast-if2
-cast-if2 c = search needs
+    none-lowest (stations .ensures) (capacity .ensures) (lowest .ensures) (c .enum-told .given .1)
 
 same-length-3 : tie.Need-same-length-3
 same-length-3 c = search needs
 
 returns-3 : tie.Need-returns-3
 returns-3 c =
-    let if2 = c .if2 in
     let station = c .before .before .station in
     let lowest = c .before .before .before .before .lowest in
     let capacity = c .before .before .before .before .before .before .before .before .before .capacity in
     let stations = c .before .before .before .before .before .before .before .before .before .before .before .stations in
-    far-lowest (stations .ensures) (capacity .ensures) (lowest .ensures) _ (station .given .1) (if2 .taken)
+    far-lowest (stations .ensures) (capacity .ensures) (lowest .ensures) _ (station .given .1) (c .if2 .taken)
 
 cast-run-at : tie.Need-cast-run-at
 cast-run-at c = search needs
 
 run-at-requires : tie.Need-run-at-requires
-run-at-requires c κs =
-    let if2 = c .before .if2 in
-    let if1 = c .before .before .before .before .before .before .before .if1 in
-    let fits2 = c .before .before .before .before .before .before .before .before .fits2 in
-    let capacity = c .before .before .before .before .before .before .before .before .before .before .capacity in
-    let stations = c .before .before .before .before .before .before .before .before .before .before .before .before .stations in
-    let back = c .before .before .before .before .before .before .before .before .before .before .before .before in
-    let args = back .before .before .before .args in
-    let fit = fits-true (stations .result) (capacity .result) (length (now (args .b))) (fits2 .ensures) (not-false _ (if1 .left)) in
-    (fit .0, fit .1, if2 .left)
+run-at-requires c κs = search needs
 
 same-length-4 : tie.Need-same-length-4
 same-length-4 c = search needs
 
 returns-4 : tie.Need-returns-4
 returns-4 c =
+    let back = c .before .before .before .before .before .before .before .before .before .before .before .before in
     let run-at = c .before .before .run-at in
     let station = c .before .before .before .before .before .before .station in
     let lowest = c .before .before .before .before .before .before .before .before .lowest in
-    let back = c .before .before .before .before .before .before .before .before .before .before .before .before in
     let capacity = back .before .capacity in
     let stations = back .before .before .before .stations in
     lowest-run (stations .ensures) (capacity .ensures) (lowest .ensures) (station .given .1) (run-at .ensures)
@@ -106,7 +88,6 @@ run-lowest-spec =
     enum-told
     same-length-2
     returns-2
-    cast-if2
     same-length-3
     returns-3
     cast-run-at

@@ -7,7 +7,8 @@ use lib.ListN.{length}
 use Rattle.store.proofs.RecordLaws.{length-event}
 use Rattle.queue.specs.Steps.{Behind}
 use Rattle.queue.proofs.Behinds.{behind-same, behind-on}
-use Rattle.engine.proofs.Writing.{Writing, writing-start, writing-on, writing-ends}
+use Rattle.engine.proofs.FoundSlots.{no-slot, slot-event}
+use Rattle.engine.proofs.Writing.{Writing, writing-start, writing-on, writing-stops, writing-ends}
 use Rattle.engine.proofs.write_first.Statement.{statement}
 use Rattle.engine.proofs.write_first.Tie as tie
 
@@ -24,6 +25,26 @@ loop-holds c =
 
 next-logged-requires : tie.Need-next-logged-requires Inv-loop μ-loop
 next-logged-requires c κs = search needs
+
+slot-in-requires : tie.Need-slot-in-requires Inv-loop μ-loop
+slot-in-requires c κs = search needs
+
+same-length : tie.Need-same-length Inv-loop μ-loop
+same-length c = search needs
+
+same-length-2 : tie.Need-same-length-2 Inv-loop μ-loop
+same-length-2 c = search needs
+
+returns : tie.Need-returns Inv-loop μ-loop
+returns c =
+    let l = c .before .before .before .before .before .before in
+    let args = l .before .before .before .args in
+    let inv = l .loop .inv in
+    let more = c .before .before .before .before .before .loop-test .taken in
+    let none = no-slot (c .before .slot-in .ensures) (c .if1 .taken) in (
+      inv .2,
+      writing-stops (args .n) (args .c) (args .b .now) (args .count) (args .out .now) (inv .3) more (c .before .before .before .next-logged .ensures) none,
+    )
 
 event-requires : tie.Need-event-requires Inv-loop μ-loop
 event-requires c κs = search needs
@@ -49,30 +70,31 @@ loop-less c = omega arith
 loop-again : tie.Need-loop-again Inv-loop μ-loop
 loop-again c =
     let w = c .before .before .before .before .before .before in
-    let l = w .before .before .before .before .before .before .before in
+    let i = w .before .before .before .before in
+    let l = i .before .before .before .before .before .before in
     let args = l .before .before .before .args in
     let inv = l .loop .inv in
-    let more = w .before .before .before .before .before .before .loop-test .taken in
+    let more = i .before .before .before .before .before .loop-test .taken in
     let put = w .write-event .ensures in
     let gone = c .before .before .release .ensures in (
       omega (arith, more),
       ap length put ∙ length-event _ _ _ ∙ inv .1,
       behind-on (inv .2) (gone .0),
       writing-on (args .n) (args .c) (args .b .now) (args .count) (args .out .now) (inv .3) more
-          (w .before .before .before .before .next-logged .ensures)
-          (w .before .before .event .ensures)
+          (i .before .before .before .next-logged .ensures)
+          (slot-event (i .before .slot-in .ensures) _ (i .if1 .left) (w .before .before .event .ensures))
           put
           (gone .1),
     )
 
-same-length : tie.Need-same-length Inv-loop μ-loop
-same-length c = search needs
+same-length-3 : tie.Need-same-length-3 Inv-loop μ-loop
+same-length-3 c = search needs
 
-same-length-2 : tie.Need-same-length-2 Inv-loop μ-loop
-same-length-2 c = search needs
+same-length-4 : tie.Need-same-length-4 Inv-loop μ-loop
+same-length-4 c = search needs
 
-returns : tie.Need-returns Inv-loop μ-loop
-returns c =
+returns-2 : tie.Need-returns-2 Inv-loop μ-loop
+returns-2 c =
     let args = c .before .before .before .before .args in
     let inv = c .before .loop .inv in
     (inv .2, writing-ends (args .n) (args .c) (args .b .now) (args .count) (args .out .now) (inv .3) (omega (arith, inv .0, c .loop-test .left)))
@@ -85,6 +107,10 @@ write-first-spec =
     μ-loop
     loop-holds
     next-logged-requires
+    slot-in-requires
+    same-length
+    same-length-2
+    returns
     event-requires
     cast-write-event
     mul-write-event
@@ -93,6 +119,6 @@ write-first-spec =
     add-k
     loop-less
     loop-again
-    same-length
-    same-length-2
-    returns)
+    same-length-3
+    same-length-4
+    returns-2)

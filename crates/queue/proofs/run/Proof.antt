@@ -1,7 +1,7 @@
 -- An event has run; where the code does nothing, the bytes hold no queue or the node is no event's.
 use native.Mathlib.Omega.{arith}
 use Rattle.queue.proofs.Promises.{tell-room}
-use Rattle.queue.proofs.Nowhere.{nowhere-fits, nowhere-target}
+use Rattle.queue.proofs.Nowhere.{nowhere-fits, nowhere-slot, nowhere-target}
 use Rattle.queue.proofs.RunMade.{run-size, run-made, run-none}
 use borrow.Author.Needs.{needs}
 use Rattle.queue.proofs.run.Statement.{statement}
@@ -10,11 +10,11 @@ use Rattle.queue.proofs.run.Tie as tie
 fits-requires : tie.Need-fits-requires
 fits-requires c κs = search needs
 
+slot-in-requires : tie.Need-slot-in-requires
+slot-in-requires c κs = search needs
+
 event-requires : tie.Need-event-requires
 event-requires c κs = search needs
-
-slot-requires : tie.Need-slot-requires
-slot-requires c κs = search needs
 
 state-requires : tie.Need-state-requires
 state-requires c κs = search needs
@@ -38,15 +38,15 @@ tell-requires c κs =
     let set-number2 = c .before .before .before .before .before .before .before .before .before .before .before .set-number2 in
     let back = c .before .before .before .before .before .before .before .before .before .before .before .before in
     let set-number = back .before .before .before .set-number in
-    let slot = back .before .before .before .before .before .before .before .slot in
-    let if2 = back .before .before .before .before .before .before .before .before .if2 in
-    let event = back .before .before .before .before .before .before .before .before .before .event in
-    let if1 = back .before .before .before .before .before .before .before .before .before .before .before .if1 in
-    let fits2 = back .before .before .before .before .before .before .before .before .before .before .before .before .fits2 in
+    let if3 = back .before .before .before .before .before .before .before .if3 in
+    let event = back .before .before .before .before .before .before .before .before .event in
+    let slot-in = back .before .before .before .before .before .before .before .before .before .before .before .slot-in in
     let back2 = back .before .before .before .before .before .before .before .before .before .before .before .before in
-    let args = back2 .before .before .before .args in
-    tell-room (args .n) (args .c) (event .result .target) (fits2 .ensures) (if1 .taken) (if2 .taken)
-    (run-size (args .n) (args .c) (args .x) (args .after) (args .first) (args .second) (slot .result) (event .result .target) _
+    let if1 = back2 .before .if1 in
+    let fits2 = back2 .before .before .fits2 in
+    let args = back2 .before .before .before .before .before .args in
+    tell-room (args .n) (args .c) (event .result .target) (fits2 .ensures) (if1 .taken) (if3 .taken)
+    (run-size (args .n) (args .c) (args .x) (args .after) (args .first) (args .second) (slot-in .result) (event .result .target) _
     (set-number .ensures .0 (omega arith)) (set-number2 .ensures .0 (omega arith)) (mark .ensures .0) (set-state .ensures))
 
 same-length : tie.Need-same-length
@@ -61,15 +61,16 @@ returns c =
     let set-number2 = back .before .before .set-number2 in
     let set-number = back .before .before .before .before .before .before .set-number in
     let state = back .before .before .before .before .before .before .before .before .state in
-    let slot = back .before .before .before .before .before .before .before .before .before .before .slot in
-    let if2 = back .before .before .before .before .before .before .before .before .before .before .before .if2 in
-    let event = back .before .before .before .before .before .before .before .before .before .before .before .before .event in
+    let if3 = back .before .before .before .before .before .before .before .before .before .before .if3 in
+    let event = back .before .before .before .before .before .before .before .before .before .before .before .event in
     let back2 = back .before .before .before .before .before .before .before .before .before .before .before .before in
-    let slice-known = back2 .before .before .before .before .before .slice-known in
-    let args = back2 .before .before .before .before .before .before .args in
-    let fits = back2 .before .before .before .before .before .before .fits in
+    let if2 = back2 .before .if2 in
+    let slot-in = back2 .before .before .slot-in in
+    let slice-known = back2 .before .before .before .before .before .before .before .slice-known in
+    let args = back2 .before .before .before .before .before .before .before .before .args in
+    let fits = back2 .before .before .before .before .before .before .before .before .fits in
     run-made (args .n) (args .c) (args .x) (args .after) (args .first) (args .second) (event .result) (state .result)
-    (omega (arith, fits .first)) (omega (arith, fits .second)) (event .ensures) (if2 .taken) (slot .ensures) (state .ensures)
+    (omega (arith, fits .first)) (omega (arith, fits .second)) (slot-in .ensures .sound (if2 .taken) .1) (event .ensures) (if3 .taken) (state .ensures)
     (λ j. omega (arith, slice-known .given j)) (set-number .ensures .0 (omega arith)) (set-number2 .ensures .0 (omega arith)) (mark .ensures)
     (set-state .ensures) (tell .ensures)
 
@@ -78,17 +79,30 @@ same-length-2 c = search needs
 
 returns-2 : tie.Need-returns-2
 returns-2 c =
-    let if2 = c .if2 in
+    let if3 = c .if3 in
     let event = c .before .event in
-    let args = c .before .before .before .before .before .before .before .args in
+    let if2 = c .before .before .before .if2 in
+    let slot-in = c .before .before .before .before .slot-in in
+    let args = c .before .before .before .before .before .before .before .before .before .before .args in
     run-none (args .n) (args .c) (args .x) (args .after) (args .first) (args .second) _
-    (nowhere-target (args .n) (args .c) (args .x) _ (event .ensures) (if2 .left))
+    (nowhere-target (args .n) (args .c) (args .x) _ (slot-in .ensures .sound (if2 .taken) .1) (event .ensures) (if3 .left))
 
 same-length-3 : tie.Need-same-length-3
 same-length-3 c = search needs
 
 returns-3 : tie.Need-returns-3
 returns-3 c =
+    let if2 = c .if2 in
+    let slot-in = c .before .slot-in in
+    let args = c .before .before .before .before .before .before .before .args in
+    run-none (args .n) (args .c) (args .x) (args .after) (args .first) (args .second) _
+    (nowhere-slot (args .n) (args .c) (args .x) _ (slot-in .ensures) (if2 .left))
+
+same-length-4 : tie.Need-same-length-4
+same-length-4 c = search needs
+
+returns-4 : tie.Need-returns-4
+returns-4 c =
     let if1 = c .if1 in
     let fits2 = c .before .fits2 in
     let args = c .before .before .before .before .args in
@@ -100,8 +114,8 @@ run-spec =
     tie.close
     (tie.spec
     fits-requires
+    slot-in-requires
     event-requires
-    slot-requires
     state-requires
     set-number-requires
     set-number-requires-2
@@ -113,4 +127,6 @@ run-spec =
     same-length-2
     returns-2
     same-length-3
-    returns-3)
+    returns-3
+    same-length-4
+    returns-4)

@@ -1,9 +1,8 @@
 -- An event is unrun again; where the code does nothing, the node is no run event's.
 use native.Mathlib.Omega.{arith}
-use Rattle.queue.proofs.Fitting.{fits-true}
 use Rattle.queue.proofs.Promises.{tell-room}
-use Rattle.queue.proofs.Nowhere.{nowhere-fits, nowhere-low, nowhere-over}
-use Rattle.queue.proofs.UnrunMade.{unrun-size, unrun-target, unrun-made, unrun-nowhere, unrun-other}
+use Rattle.queue.proofs.Nowhere.{nowhere-fits, nowhere-slot, nowhere-target}
+use Rattle.queue.proofs.UnrunMade.{unrun-size, unrun-made, unrun-nowhere, unrun-other}
 use borrow.Author.Needs.{needs}
 use Rattle.queue.proofs.unrun.Statement.{statement}
 use Rattle.queue.proofs.unrun.Tie as tie
@@ -11,29 +10,8 @@ use Rattle.queue.proofs.unrun.Tie as tie
 fits-requires : tie.Need-fits-requires
 fits-requires c κs = search needs
 
-mul-if2 : tie.Need-mul-if2
-mul-if2 c =
-    let if1 = c .if1 in
-    let fits2 = c .before .fits2 in
-    let args = c .before .before .before .before .args in
-    omega (arith, fits-true (args .n) (args .c) _ (fits2 .ensures) (if1 .taken) .0)
-
-mul-if3 : tie.Need-mul-if3
-mul-if3 c = search needs
-
-add-if3 : tie.Need-add-if3
-add-if3 c = search needs
-
-add-if3-2 : tie.Need-add-if3-2
-add-if3-2 c =
-    let if1 = c .before .if1 in
-    let fits2 = c .before .before .fits2 in
-    let args = c .before .before .before .before .before .args in
-    let w = fits-true (args .n) (args .c) _ (fits2 .ensures) (if1 .taken) in
-    omega (arith, w .0, w .1)
-
-slot-requires : tie.Need-slot-requires
-slot-requires c κs = search needs
+slot-in-requires : tie.Need-slot-in-requires
+slot-in-requires c κs = search needs
 
 number-requires : tie.Need-number-requires
 number-requires c κs = search needs
@@ -55,13 +33,13 @@ tell-requires c κs =
     let set-state = c .before .before .before .set-state in
     let unmark = c .before .before .before .before .before .before .before .unmark in
     let saved = c .before .before .before .before .before .before .before .before .before .saved in
-    let if5 = c .before .before .before .before .before .before .before .before .before .before .before .if5 in
+    let if4 = c .before .before .before .before .before .before .before .before .before .before .before .if4 in
     let event = c .before .before .before .before .before .before .before .before .before .before .before .before .event in
     let back = c .before .before .before .before .before .before .before .before .before .before .before .before in
     let if1 = back .before .before .before .before .before .before .before .before .if1 in
     let fits2 = back .before .before .before .before .before .before .before .before .before .fits2 in
     let args = back .before .before .before .before .before .before .before .before .before .before .before .before .args in
-    tell-room (args .n) (args .c) (event .result .target) (fits2 .ensures) (if1 .taken) (if5 .taken)
+    tell-room (args .n) (args .c) (event .result .target) (fits2 .ensures) (if1 .taken) (if4 .taken)
     (unrun-size (args .n) (args .c) (event .result .target) (saved .result) _ (unmark .ensures .0) (set-state .ensures))
 
 same-length : tie.Need-same-length
@@ -74,68 +52,60 @@ returns c =
     let unmark = c .before .before .before .before .before .before .before .before .before .before .unmark in
     let saved = c .before .before .before .before .before .before .before .before .before .before .before .before .saved in
     let back = c .before .before .before .before .before .before .before .before .before .before .before .before in
-    let if5 = back .before .before .if5 in
+    let if4 = back .before .before .if4 in
     let event = back .before .before .before .event in
-    let if4 = back .before .before .before .before .before .if4 in
+    let if3 = back .before .before .before .before .before .if3 in
     let number = back .before .before .before .before .before .before .number in
-    let slot = back .before .before .before .before .before .before .before .before .slot in
-    let if3 = back .before .before .before .before .before .before .before .before .before .if3 in
-    let if2 = back .before .before .before .before .before .before .before .before .before .before .if2 in
-    let if1 = back .before .before .before .before .before .before .before .before .before .before .before .if1 in
-    let fits2 = back .before .before .before .before .before .before .before .before .before .before .before .before .fits2 in
+    let if2 = back .before .before .before .before .before .before .before .before .if2 in
+    let slot-in = back .before .before .before .before .before .before .before .before .before .slot-in in
     let back2 = back .before .before .before .before .before .before .before .before .before .before .before .before in
     let slice-known = back2 .before .before .slice-known in
     let args = back2 .before .before .before .args in
-    unrun-made (args .n) (args .c) (args .x) (event .result) (saved .result) (fits2 .ensures) (if1 .taken) (if2 .taken) (if3 .taken) (slot .ensures)
-    (number .ensures .0 (omega arith)) (if4 .taken) (event .ensures) (if5 .taken) (saved .ensures) (λ j. omega (arith, slice-known .given j))
-    (unmark .ensures) (set-state .ensures) (tell .ensures)
+    unrun-made (args .n) (args .c) (args .x) (event .result) (saved .result) (slot-in .ensures .sound (if2 .taken)) (number .ensures .0 (omega arith))
+    (if3 .taken) (event .ensures) (if4 .taken) (saved .ensures) (λ j. omega (arith, slice-known .given j)) (unmark .ensures) (set-state .ensures)
+    (tell .ensures)
 
 same-length-2 : tie.Need-same-length-2
 same-length-2 c = search needs
 
 returns-2 : tie.Need-returns-2
 returns-2 c =
-    let if5 = c .if5 in
+    let if4 = c .if4 in
     let event = c .before .event in
-    let slot = c .before .before .before .before .before .before .slot in
+    let if2 = c .before .before .before .before .before .before .if2 in
+    let slot-in = c .before .before .before .before .before .before .before .slot-in in
     let back = c .before .before .before .before .before .before .before .before .before .before .before .before in
     let args = back .before .args in
-    unrun-target (args .n) (args .c) (args .x) _ (slot .ensures) (event .ensures) (if5 .left)
+    unrun-nowhere (args .n) (args .c) (args .x) _
+    (nowhere-target (args .n) (args .c) (args .x) _ (slot-in .ensures .sound (if2 .taken) .1) (event .ensures) (if4 .left))
 
 same-length-3 : tie.Need-same-length-3
 same-length-3 c = search needs
 
 returns-3 : tie.Need-returns-3
 returns-3 c =
-    let if4 = c .if4 in
+    let if3 = c .if3 in
     let number = c .before .number in
-    let slot = c .before .before .before .slot in
+    let if2 = c .before .before .before .if2 in
+    let slot-in = c .before .before .before .before .slot-in in
     let args = c .before .before .before .before .before .before .before .before .before .before .args in
-    unrun-other (args .n) (args .c) (args .x) _ (slot .ensures) (number .ensures .0 (omega arith)) (if4 .left)
+    unrun-other (args .n) (args .c) (args .x) _ (slot-in .ensures .sound (if2 .taken) .1) (number .ensures .0 (omega arith)) (if3 .left)
 
 same-length-4 : tie.Need-same-length-4
 same-length-4 c = search needs
 
 returns-4 : tie.Need-returns-4
 returns-4 c =
-    let if3 = c .if3 in
-    let args = c .before .before .before .before .before .before .args in
-    unrun-nowhere (args .n) (args .c) (args .x) _ (nowhere-over (args .n) (args .c) (args .x) _ (if3 .left))
+    let if2 = c .if2 in
+    let slot-in = c .before .slot-in in
+    let args = c .before .before .before .before .before .before .before .args in
+    unrun-nowhere (args .n) (args .c) (args .x) _ (nowhere-slot (args .n) (args .c) (args .x) _ (slot-in .ensures) (if2 .left))
 
 same-length-5 : tie.Need-same-length-5
 same-length-5 c = search needs
 
 returns-5 : tie.Need-returns-5
 returns-5 c =
-    let if2 = c .if2 in
-    let args = c .before .before .before .before .before .args in
-    unrun-nowhere (args .n) (args .c) (args .x) _ (nowhere-low (args .n) (args .c) (args .x) _ (if2 .left))
-
-same-length-6 : tie.Need-same-length-6
-same-length-6 c = search needs
-
-returns-6 : tie.Need-returns-6
-returns-6 c =
     let if1 = c .if1 in
     let fits2 = c .before .fits2 in
     let args = c .before .before .before .before .args in
@@ -146,11 +116,7 @@ unrun-spec =
     tie.close
     (tie.spec
     fits-requires
-    mul-if2
-    mul-if3
-    add-if3
-    add-if3-2
-    slot-requires
+    slot-in-requires
     number-requires
     event-requires
     saved-requires
@@ -166,6 +132,4 @@ unrun-spec =
     same-length-4
     returns-4
     same-length-5
-    returns-5
-    same-length-6
-    returns-6)
+    returns-5)

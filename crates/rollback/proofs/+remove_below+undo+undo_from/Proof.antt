@@ -22,12 +22,13 @@ use Rattle.rollback.proofs.undo_from.Reads as undo-from
 use Rattle.rollback.proofs.undo_from.Kinds as undo-from-kinds
 use Rattle.rollback.proofs.+remove_below+undo+undo_from.Lts-undo_from as undo-from-lts
 use Rattle.index.proofs.prev.Reads as prev-reads
-use Rattle.line.proofs.before.Reads as before-reads
 use Rattle.queue.proofs.discard.Reads as discard-reads
 use Rattle.queue.proofs.event.Reads as event-reads
 use Rattle.queue.proofs.first_send.Reads as first-send-reads
 use Rattle.queue.proofs.second_send.Reads as second-send-reads
+use Rattle.queue.proofs.slot.Reads as slot-reads
 use Rattle.queue.proofs.unrun.Reads as unrun-reads
+use Rattle.store.proofs.before.Reads as before-reads
 use Rattle.rollback.proofs.+remove_below+undo+undo_from.{statement}
 use Rattle.rollback.proofs.+remove_below+undo+undo_from.Tie.{close}
 
@@ -199,7 +200,7 @@ undo-from-μ-loop b₀ n c s e count₀ b count = runsBelow n b c
 
 module _ (t : ℕ) where
   abbrev undo-from-calls : undo-from-lts.Claims
-  undo-from-calls = (prev-reads.Asked, prev-reads.Learnt, event-reads.Asked, event-reads.Learnt, before-reads.Asked, before-reads.Learnt, undo-below t, undo.Post)
+  undo-from-calls = (prev-reads.Asked, prev-reads.Learnt, slot-reads.Asked, slot-reads.Learnt, before-reads.Asked, before-reads.Learnt, undo-below t, undo.Post)
 
   undo-from-loop-holds : undo-from-lts.Need-loop-holds undo-from-calls (undo-from-at t) undo-from.Post undo-from-Inv-loop undo-from-μ-loop
   undo-from-loop-holds c = (behind-same _, omega arith, goes-at-first _ _ _ _ _)
@@ -223,8 +224,8 @@ module _ (t : ℕ) where
       let i = c .before .before .before .loop .inv in
       (i .0, (i .1, undoes-from (i .2) (ended-empty l _ (c .before .prev .ensures) (omega arith))))
 
-  undo-from-event-requires : undo-from-lts.Need-event-requires undo-from-calls (undo-from-at t) undo-from.Post undo-from-Inv-loop undo-from-μ-loop
-  undo-from-event-requires c κs = search needs
+  undo-from-slot-requires : undo-from-lts.Need-slot-requires undo-from-calls (undo-from-at t) undo-from.Post undo-from-Inv-loop undo-from-μ-loop
+  undo-from-slot-requires c κs = search needs
 
   undo-from-before-requires : undo-from-lts.Need-before-requires undo-from-calls (undo-from-at t) undo-from.Post undo-from-Inv-loop undo-from-μ-loop
   undo-from-before-requires c κs = search needs
@@ -238,9 +239,9 @@ module _ (t : ℕ) where
       let l : o .args .s < o .args .n = omega arith in
       let i = c .before .before .before .before .before .before .before .loop .inv in
       let x = c .before .before .before .before .before .prev .ensures in
-      let e = c .before .before .event .ensures in
+      let a = c .before .before .slot .ensures in
       let b = c .before .before2 .ensures in
-      (i .0, (i .1, undoes-from (i .2) (ended-before l _ x (λ z. omega (arith, z)) (test-at _ e b (c .if2 .taken)))))
+      (i .0, (i .1, undoes-from (i .2) (ended-before l _ x (λ z. omega (arith, z)) (test-at _ _ _ _ a b (c .if2 .taken)))))
 
   undo-from-undo-requires : undo-from-lts.Need-undo-requires undo-from-calls (undo-from-at t) undo-from.Post undo-from-Inv-loop undo-from-μ-loop
   undo-from-undo-requires c κs = (omega arith, omega arith)
@@ -255,9 +256,9 @@ module _ (t : ℕ) where
       let i = c .before .before .before .before .before .before .before .before .before .before .before .before .loop .inv in
       let u = c .before .before .before .undo .ensures in
       let x = c .before .before .before .before .before .before .before .before .before .before .prev .ensures in
-      let e = c .before .before .before .before .before .before .before .event .ensures in
+      let a = c .before .before .before .before .before .before .before .slot .ensures in
       let b = c .before .before .before .before .before .before .before2 .ensures in
-      let v = test-at _ e b (c .before .before .before .before .before .if2 .left) in (
+      let v = test-at _ _ _ _ a b (c .before .before .before .before .before .if2 .left) in (
         behind-on (i .0) (u .0),
         (omega (arith, i .1, u .1 .0), no-turn l _ x (λ z. omega (arith, z)) v (i .2) (u .1 .1) (omega arith)),
       )
@@ -279,9 +280,9 @@ module _ (t : ℕ) where
       let i = c .before .before .before .before .before .before .before .before .before .before .before .before .loop .inv in
       let u = c .before .before .before .undo .ensures in
       let x = c .before .before .before .before .before .before .before .before .before .before .prev .ensures in
-      let e = c .before .before .before .before .before .before .before .event .ensures in
+      let a = c .before .before .before .before .before .before .before .slot .ensures in
       let b = c .before .before .before .before .before .before .before2 .ensures in
-      let v = test-at _ e b (c .before .before .before .before .before .if2 .left) in
+      let v = test-at _ _ _ _ a b (c .before .before .before .before .before .if2 .left) in
       (behind-on (i .0) (u .0), omega (arith, i .1, u .1 .0), goes-on l _ x (λ z. omega (arith, z)) v (i .2) (u .1 .1))
 
 pub +remove-below+undo+undo-from-spec : {M : Type 1} → statement M
@@ -319,7 +320,7 @@ pub +remove-below+undo+undo-from-spec : {M : Type 1} → statement M
     (undo-from-add-if1 t)
     (undo-from-same-length t)
     (undo-from-returns t)
-    (undo-from-event-requires t)
+    (undo-from-slot-requires t)
     (undo-from-before-requires t)
     (undo-from-same-length-2 t)
     (undo-from-returns-2 t)

@@ -13,8 +13,8 @@ returns c = (behind-same _, (omega arith, adds-out _ _ _ (omega arith)))
 returns-2 : tie.Need-returns-2
 returns-2 c = (behind-same _, (omega arith, adds-else _ _ _ (omega arith)))
 
-undo-from-requires : tie.Need-undo-from-requires
-undo-from-requires c κs = search needs
+roll-back-requires : tie.Need-roll-back-requires
+roll-back-requires c κs = search needs
 
 hold-requires : tie.Need-hold-requires
 hold-requires c κs = search needs
@@ -25,11 +25,11 @@ same-length c = search needs
 returns-3 : tie.Need-returns-3
 returns-3 c =
     let o = c .before .before .before .before .before .before .before .before .before .before .before in
-    let u = c .before .before .before .before .before .before .undo-from .ensures in
+    let u = c .before .before .before .before .before .before .roll-back .ensures in
     let h = c .before .before .hold .ensures in (
       behind-on (u .0) (h .0),
       (omega (arith, u .1 .0, runs-few (o .args .n) (o .args .b .now) (o .args .c)), adds _ _ _ (u .1 .1) (h .1)),
     )
 
 pub add-spec : {M : Type 1} → statement M
-add-spec = tie.close (tie.spec returns returns-2 undo-from-requires hold-requires same-length returns-3)
+add-spec = tie.close (tie.spec returns returns-2 roll-back-requires hold-requires same-length returns-3)
