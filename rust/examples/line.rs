@@ -1,25 +1,15 @@
 //! A line of three stations for an hour: how many frames arrive at the collector.
-use jambfennel::{Engine, Matter, Refusal};
-
-/// A plan of unnamed stations: parent, calm and spring period, threshold, hop delay, noise limit and seed of each.
-fn plan(stations: &[(u16, [u32; 6])]) -> Vec<u8> {
-    let n = stations.len();
-    let mut bytes = (n as u16).to_le_bytes().to_vec();
-    for s in 0..n {
-        bytes.extend(((2 + 8 * n + 26 * s) as u32).to_le_bytes());
-        bytes.extend(26u32.to_le_bytes());
-    }
-    for (parent, numbers) in stations {
-        bytes.extend(parent.to_le_bytes());
-        numbers.iter().for_each(|number| bytes.extend(number.to_le_bytes()));
-    }
-    bytes
-}
+use jambfennel::{Config, Engine, Matter, Plan, Refusal, Station};
 
 fn main() -> Result<(), Refusal> {
-    let period = [300_000, 60_000, 5_000, 250, 107_374_182];
-    let station = |parent, seed| (parent, [period[0], period[1], period[2], period[3], period[4], seed]);
-    let plan = plan(&[station(0, 1), station(0, 2), station(1, 3)]);
+    let numbers = |parent, seed| Config { parent, calm: 300_000, spring: 60_000, threshold: 5_000, hop: 250, noise: 107_374_182, seed };
+    let stations = [
+        Station::new(numbers(0, 1), b"collector"),
+        Station::new(numbers(0, 2), b"crest"),
+        Station::new(numbers(1, 3), b"toe"),
+    ];
+    let mut bytes = [0; Plan::bytes_for(3)];
+    let plan = Plan::write(&stations, &mut bytes)?;
     let mut buffer = vec![0; Engine::bytes(3, 64)];
     let mut engine = Engine::open(&plan, 64, 64, &mut buffer)?;
     engine.post(1, 0, Matter::Reading)?;
@@ -39,7 +29,10 @@ fn main() -> Result<(), Refusal> {
         };
         events += log.len();
     }
-    let collector = engine.record(0)?;
-    println!("{events} events; {} frames at the collector, {} lost there", collector.heard, collector.lost);
+    for station in 0..plan.count() as u64 {
+        let record = engine.record(station)?;
+        println!("{}: {} heard, {} lost, {} sent", String::from_utf8_lossy(plan.name(station)?), record.heard, record.lost, record.sent);
+    }
+    println!("{events} events");
     Ok(())
 }

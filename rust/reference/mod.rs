@@ -68,6 +68,87 @@ pub fn plan_bytes(line: &[Config]) -> Vec<u8> {
     bytes
 }
 
+/// A refusal's number, and its station.
+pub type Wrong = (u64, Option<u64>);
+
+fn number_wrong(s: usize, c: &Config) -> bool {
+    let parent_wrong = if s == 0 { c.parent != 0 } else { c.parent as usize >= s };
+    parent_wrong || c.calm < 1 || c.spring < 1 || c.hop < 1 || c.noise > 2_147_483_646 || c.seed < 1 || c.seed > 2_147_483_646
+}
+
+fn name_wrong(name: &[u8]) -> bool {
+    name.len() > 16 || name.iter().any(|byte| !(0x21..=0x7E).contains(byte))
+}
+
+/// 4 and 5, with the lowest station.
+fn stations_wrong(stations: &[(Config, Vec<u8>)]) -> Option<Wrong> {
+    let number = stations.iter().enumerate().position(|(s, (c, _))| number_wrong(s, c)).map(|s| (4, Some(s as u64)));
+    number.or(stations.iter().position(|(_, name)| name_wrong(name)).map(|s| (5, Some(s as u64))))
+}
+
+/// A plan's stations with their names.
+pub fn read_plan(bytes: &[u8]) -> Result<Vec<(Config, Vec<u8>)>, Wrong> {
+    let half = |at: usize| u16::from_le_bytes(bytes[at..at + 2].try_into().unwrap());
+    let word = |at: usize| u32::from_le_bytes(bytes[at..at + 4].try_into().unwrap());
+    if bytes.len() < 2 {
+        return Err((1, None));
+    }
+    let n = half(0) as usize;
+    if n < 1 || n > 256 || bytes.len() < 2 + 8 * n {
+        return Err((1, None));
+    }
+    let mut begin = 2 + 8 * n;
+    let mut records = vec![];
+    for s in 0..n {
+        let (offset, len) = (word(2 + 8 * s) as usize, word(6 + 8 * s) as usize);
+        if offset != begin || len < 26 || len > 42 || offset + len > bytes.len() {
+            return Err((2, Some(s as u64)));
+        }
+        records.push((offset, len));
+        begin += len;
+    }
+    if begin < bytes.len() {
+        return Err((3, None));
+    }
+    let stations: Vec<_> = records
+        .into_iter()
+        .map(|(at, len)| {
+            let [calm, spring, threshold, hop, noise, seed] = [2, 6, 10, 14, 18, 22].map(|k| word(at + k));
+            (Config { parent: half(at), calm, spring, threshold, hop, noise, seed }, bytes[at + 26..at + len].to_vec())
+        })
+        .collect();
+    match stations_wrong(&stations) {
+        Some(wrong) => Err(wrong),
+        None => Ok(stations),
+    }
+}
+
+/// The plan of these stations, for an output of so many bytes.
+pub fn write_plan(stations: &[(Config, Vec<u8>)], room: usize) -> Result<Vec<u8>, Wrong> {
+    if stations.is_empty() || stations.len() > 256 {
+        return Err((1, None));
+    }
+    if let Some(wrong) = stations_wrong(stations) {
+        return Err(wrong);
+    }
+    let mut bytes = (stations.len() as u16).to_le_bytes().to_vec();
+    let mut begin = 2 + 8 * stations.len();
+    for (_, name) in stations {
+        bytes.extend((begin as u32).to_le_bytes());
+        bytes.extend((26 + name.len() as u32).to_le_bytes());
+        begin += 26 + name.len();
+    }
+    for (c, name) in stations {
+        bytes.extend(c.parent.to_le_bytes());
+        [c.calm, c.spring, c.threshold, c.hop, c.noise, c.seed].iter().for_each(|number| bytes.extend(number.to_le_bytes()));
+        bytes.extend(name);
+    }
+    if room < bytes.len() {
+        return Err((18, None));
+    }
+    Ok(bytes)
+}
+
 pub fn first_state(c: &Config) -> State {
     State { draw: c.seed.into(), level: 0, heard: 0, lost: 0, sent: 0 }
 }

@@ -1,8 +1,13 @@
 // The proved calls. A slice is a pointer and a length there; the number returned is 0 where the call is accepted, else its refusal's. This is the only file with
 // unsafe code: each length is its slice's own, and no call keeps a pointer.
+use crate::plan::Station;
 use crate::{refusal, Refusal};
 
 extern "C" {
+    fn plan_judge(plan: *const u8, plan_len: usize, at: *mut [u64; 2]) -> u64;
+    fn plan_read(plan: *const u8, plan_len: usize, stations: *mut Station, len: usize, at: *mut [u64; 2]) -> u64;
+    fn plan_write(stations: *const Station, len: usize, n: u64, out: *mut u8, out_len: usize, at: *mut [u64; 2]) -> u64;
+    fn plan_name(plan: *const u8, plan_len: usize, station: u64, at: *mut [u64; 2]) -> u64;
     fn engine_open(plan: *const u8, plan_len: usize, width: u64, capacity: u64, b: *mut u8, len: usize, at: *mut [u64; 2]) -> u64;
     fn engine_post(b: *mut u8, len: usize, station: u64, time: u64, kind: u64, value: u64, at: *mut [u64; 2]) -> u64;
     fn engine_retract(b: *mut u8, len: usize, number: u64, at: *mut [u64; 2]) -> u64;
@@ -31,6 +36,22 @@ fn done(code: u64) -> Result<(), Refusal> {
         0 => Ok(()),
         code => Err(refusal(code, 0)),
     }
+}
+
+pub fn judge(plan: &[u8]) -> Result<[u64; 2], Refusal> {
+    answer(|at| unsafe { plan_judge(plan.as_ptr(), plan.len(), at) })
+}
+
+pub fn read_plan(plan: &[u8], stations: &mut [Station]) -> Result<[u64; 2], Refusal> {
+    answer(|at| unsafe { plan_read(plan.as_ptr(), plan.len(), stations.as_mut_ptr(), stations.len(), at) })
+}
+
+pub fn write_plan(stations: &[Station], out: &mut [u8]) -> Result<[u64; 2], Refusal> {
+    answer(|at| unsafe { plan_write(stations.as_ptr(), stations.len(), stations.len() as u64, out.as_mut_ptr(), out.len(), at) })
+}
+
+pub fn name(plan: &[u8], station: u64) -> Result<[u64; 2], Refusal> {
+    answer(|at| unsafe { plan_name(plan.as_ptr(), plan.len(), station, at) })
 }
 
 pub fn open(plan: &[u8], width: u64, capacity: u64, b: &mut [u8]) -> Result<[u64; 2], Refusal> {

@@ -26,8 +26,10 @@ use std::fmt;
 
 mod calls;
 pub mod calendar;
+pub mod plan;
 
 pub use calendar::Calendar;
+pub use plan::{Config, Plan, Station};
 
 /// The last time of an event.
 pub const HORIZON: u64 = 1_099_511_627_775;
@@ -190,8 +192,8 @@ impl<'b> Engine<'b> {
     }
 
     /// Opens a plan, with a calendar of that leaf width. Refusals: 1 to 5, 6, 7.
-    pub fn open(plan: &[u8], width: u64, capacity: u64, buffer: &'b mut [u8]) -> Result<Engine<'b>, Refusal> {
-        calls::open(plan, width, capacity, buffer)?;
+    pub fn open(plan: &(impl AsRef<[u8]> + ?Sized), width: u64, capacity: u64, buffer: &'b mut [u8]) -> Result<Engine<'b>, Refusal> {
+        calls::open(plan.as_ref(), width, capacity, buffer)?;
         Ok(Engine { bytes: buffer })
     }
 

@@ -1,5 +1,5 @@
 -- The number that a caller in Rust or C gets for the answer of an engine's call, and the numbers that are lent for its values, as the call leaves them.
-use mathlib.Core.List.{List, [], _∷_}
+use mathlib.Core.List.{List}
 use Prim.Native.Nat.{ℕ}
 use lib.ListN.{set}
 use Rattle.refusal.specs.Numbers.{numberOf, stationsOf}
@@ -15,6 +15,7 @@ use Rattle.engine.specs.declared.CommitAnswer.{CommitAnswer}
 use Rattle.engine.specs.declared.CommitAnswer.the-variants as C
 use Rattle.engine.specs.declared.RecordAnswer.{RecordAnswer}
 use Rattle.engine.specs.declared.RecordAnswer.the-variants as D
+use Rattle.exports.specs.Told.{firstOr}
 
 -- ---- the number: 0 where it is no refusal
 
@@ -43,11 +44,6 @@ recordCode (D.Done state) = 0
 recordCode (D.Refused e) = numberOf e
 
 -- ---- the values
-
--- the station of 2, 4 and 5
-abbrev pub firstOr : List ℕ → List ℕ → List ℕ
-firstOr [] old = old
-firstOr (s ∷ ss) old = set old 0 s
 
 abbrev pub opened : OpenAnswer → List ℕ → List ℕ
 opened O.Done old = old

@@ -4,8 +4,10 @@
 //!
 //! Every figure is nanoseconds a committed event, the median of the rounds; in each round every machine of a row takes its turn. The engine runs lowest in batches and
 //! commits at every whole interval of simulated time that it can; a batch is 32 events. The heap steps to the same times and writes the same 24 bytes an event.
+//! Where Debian's libns3-dev and python3-simpy are installed, the same line on ns-3's core and on SimPy has a column (benchmarks/line_ns3.cc, line_simpy.py).
 use jambfennel::{Calendar, Engine, Matter};
 use std::hint::black_box;
+use std::process::Command;
 use std::time::Instant;
 
 #[path = "../../reference/mod.rs"]
@@ -127,6 +129,13 @@ fn heap(work: &Work, events: u64) -> Took {
     took
 }
 
+/// Another simulator, as a program that takes the work as numbers and prints how many events ran and the nanoseconds of each.
+fn other(program: &str, script: Option<&str>, work: &Work, events: u64) -> Option<f64> {
+    let numbers = [work.n, work.fan, work.noise.into(), work.readers, events].map(|x| x.to_string());
+    let output = Command::new(program).args(script).args(numbers).output().ok()?;
+    String::from_utf8(output.stdout).ok()?.split_whitespace().nth(1)?.parse().ok()
+}
+
 /// The calendar alone: lowest, extract and register a cycle.
 fn calendar(n: u64, width: u64, cycles: u64) -> f64 {
     let mut buffer = vec![0; Calendar::bytes(n as usize)];
@@ -215,12 +224,18 @@ fn main() {
         let [a, b, c] = medians(rounds, |k| engine(&work, [64, 512, 4096][k], 64, 0, events).map(|t| t.each()));
         println!("| {shape}, {readers} reading | {} | {} | {} | {} |", cell(a), cell(b), cell(c), ratio(c, a));
     }
-    println!("\n| 256 stations, capacity 4096, noise 5 % | w 1 | 4 | 16 | 64 | 256 | 1024 | 4096 | heap |\n|---|---|---|---|---|---|---|---|---|");
+    println!("\n| 256 stations, capacity 4096, noise 5 % | w 1 | 4 | 16 | 64 | 256 | 1024 | 4096 | heap | ns-3 | SimPy | best / heap | best / ns-3 |");
+    println!("|---|---|---|---|---|---|---|---|---|---|---|---|---|");
     for (shape, fan, interval) in [("tree of 4", 4, MINUTE), ("chain", 1, 7_500)] {
         let work = Work { n: 256, fan, noise: 107_374_182, readers: 255, interval };
-        let row: [Option<f64>; 8] =
-            medians(rounds, |k| if k < 7 { engine(&work, 4096, 4u64.pow(k as u32), 0, events).map(|t| t.each()) } else { Some(heap(&work, events).each()) });
-        println!("| {shape} | {} |", row.map(cell).join(" | "));
+        let row: [Option<f64>; 10] = medians(rounds, |k| match k {
+            7 => Some(heap(&work, events).each()),
+            8 => other("../target/benchmark-ns3", None, &work, events),
+            9 => other("/usr/bin/python3", Some("../benchmarks/line_simpy.py"), &work, events / 20),
+            _ => engine(&work, 4096, 4u64.pow(k as u32), 0, events).map(|t| t.each()),
+        });
+        let best = row[..7].iter().flatten().copied().min_by(f64::total_cmp);
+        println!("| {shape} | {} | {} | {} |", row.map(cell).join(" | "), ratio(best, row[7]), ratio(best, row[8]));
     }
     println!("\n| late posts, 256 stations, capacity 4096 | none | undo 1 % | undo 10 % |\n|---|---|---|---|");
     for (shape, fan, interval) in [("tree of 4", 4, MINUTE), ("chain", 1, 7_500)] {

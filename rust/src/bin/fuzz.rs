@@ -1,10 +1,10 @@
-//! The engine against a simple one written from the paper alone, call by call; then every call on damaged buffers.
+//! Plans and the engine against simple ones written from the paper alone, call by call; then every call on damaged buffers.
 //!
 //!     make fuzz [CASES=2000] [SEED=1]
 //!
-//! Each case is a drawn line of stations and a drawn list of calls. Answers, logs and records are compared, and at the end the joined logs and the records with the plain
+//! A case of plans is a drawn list of stations, written, and the plan damaged, read. A case of the engine is a drawn line and a drawn list of calls. Answers, logs and records are compared, and at the end the joined logs and the records with the plain
 //! machine. A difference prints the case's seed. `fuzz stack=64` runs the deepest rollback in a stack of so many KiB.
-use jambfennel::{Engine, Refusal};
+use jambfennel::{Engine, Plan, Refusal, Station};
 
 #[path = "../../reference/mod.rs"]
 mod reference;
@@ -225,6 +225,91 @@ fn cascade() -> u64 {
     undone
 }
 
+// Stations that are mostly right.
+fn stations(dice: &mut Dice) -> Vec<(Config, Vec<u8>)> {
+    let wrong = dice.pick(&[0, 0, 0, 1, 20]);
+    let mut line = line(dice);
+    if dice.one_in(20) {
+        line.extend(line.clone().repeat(1 + 256 / line.len()));
+    }
+    line.into_iter()
+        .map(|mut c| {
+            let mut name: Vec<u8> = (0..dice.below(17)).map(|_| 0x21 + dice.below(94) as u8).collect();
+            if dice.below(100) < wrong {
+                match dice.below(5) {
+                    0 => c.parent = dice.pick(&[0, 1, 5, 65_535]),
+                    1 => c.seed = dice.pick(&[0, 2_147_483_647, u32::MAX]),
+                    2 => c.hop = 0,
+                    3 => name.push(dice.below(256) as u8),
+                    _ => name.resize(16 + dice.below(3) as usize, b'x'),
+                }
+            }
+            (c, name)
+        })
+        .collect()
+}
+
+fn record((c, name): &(Config, Vec<u8>)) -> Station {
+    let Config { parent, calm, spring, threshold, hop, noise, seed } = *c;
+    Station::new(jambfennel::Config { parent, calm, spring, threshold, hop, noise, seed }, name)
+}
+
+fn wrong<T>(r: Result<T, Refusal>) -> Result<T, reference::Wrong> {
+    r.map_err(|refusal| (refusal.number, refusal.station))
+}
+
+// Stations written as a plan, and plans sound and damaged read.
+fn plans(seed: u64) -> u64 {
+    let mut dice = Dice(seed.wrapping_mul(0xD1B5_4A32_D192_ED03) | 1);
+    let drawn = stations(&mut dice);
+    let records: Vec<Station> = drawn.iter().map(record).collect();
+    let whole = 2 + drawn.iter().map(|(_, name)| 34 + name.len()).sum::<usize>();
+    let room = dice.pick(&[whole, whole + 30, whole.saturating_sub(1), 0]);
+    let mut output: Vec<u8> = (0..room).map(|_| dice.below(256) as u8).collect();
+    let before = output.clone();
+    let expected = reference::write_plan(&drawn, room);
+    let written = wrong(Plan::write(&records, &mut output).map(|plan| plan.bytes().to_vec()));
+    assert_eq!(written, expected, "case {seed}: a plan is written otherwise");
+    let end = expected.as_ref().map_or(0, |bytes| bytes.len());
+    assert!(output[end..] == before[end..], "case {seed}: bytes behind the plan");
+
+    let mut bytes = reference::write_plan(&drawn, whole).unwrap_or_else(|_| reference::plan_bytes(&line(&mut dice)));
+    match dice.below(5) {
+        0 => {}
+        1 => bytes.truncate(dice.below(bytes.len() as u64 + 1) as usize),
+        2 => bytes.push(dice.below(256) as u8),
+        3 => {
+            // a number of a pair or a record, or a byte of a name
+            let at = dice.below(bytes.len() as u64) as usize;
+            bytes[at] = bytes[at].wrapping_add(dice.pick(&[1, 255, 16]));
+        }
+        _ => {
+            for _ in 0..1 + dice.below(4) {
+                let at = dice.below(bytes.len() as u64) as usize;
+                bytes[at] ^= 1 << dice.below(8);
+            }
+        }
+    }
+    let expected = reference::read_plan(&bytes);
+    let read = wrong(Plan::read(&bytes));
+    assert_eq!(read.map(|plan| plan.count()), expected.as_ref().map(|stations| stations.len()).map_err(|e| *e), "case {seed}: a plan is judged otherwise");
+    let (Ok(plan), Ok(expected)) = (read, expected) else { return 2 };
+    let expected: Vec<Station> = expected.iter().map(record).collect();
+    assert_eq!(plan.stations(), expected, "case {seed}: stations");
+    let filler = Station::new(jambfennel::Config::default(), b"filler");
+    let mut list = vec![filler; expected.len() + 2];
+    let few = dice.below(expected.len() as u64) as usize;
+    assert_eq!(wrong(plan.read_into(&mut list[..few]).map(|read| read.len())), Err((18, None)), "case {seed}: a list that is too short");
+    assert!(list.iter().all(|station| *station == filler), "case {seed}: a refused reading changed the list");
+    plan.read_into(&mut list).unwrap();
+    assert!(list[..expected.len()] == expected[..] && list[expected.len()..] == [filler; 2], "case {seed}: a longer list");
+    for (s, station) in expected.iter().enumerate() {
+        assert_eq!(wrong(plan.name(s as u64)), Ok(station.name()), "case {seed}: a name");
+    }
+    assert_eq!(wrong(plan.name(expected.len() as u64)), Err((9, None)), "case {seed}: a name of no station");
+    6 + expected.len() as u64
+}
+
 fn in_stack<T: Send + 'static>(kib: usize, f: impl FnOnce() -> T + Send + 'static) -> T {
     std::thread::Builder::new().stack_size(1024 * kib).spawn(f).unwrap().join().expect("the thread ends")
 }
@@ -237,6 +322,8 @@ fn main() {
     let arguments: Vec<u64> = std::env::args().skip(1).map(|a| a.parse().expect("a number")).collect();
     let cases = arguments.first().copied().unwrap_or(2_000);
     let seed = arguments.get(1).copied().unwrap_or(1);
+    let calls: u64 = (seed..seed + cases).map(plans).sum();
+    println!("{cases} lists of stations and {cases} plans, {calls} calls: bytes, records, names and refusals as in the simple reader and writer");
     let calls: u64 = (seed..seed + cases).map(compare).sum();
     println!("{cases} lists, {calls} calls: answers, logs and records as in the simple engine and the plain machine");
     let calls: u64 = (seed..seed + cases).map(damage).sum();

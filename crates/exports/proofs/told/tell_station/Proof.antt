@@ -12,10 +12,10 @@ use Rattle.refusal.specs.declared.Refusal.{Refusal}
 use Rattle.refusal.specs.declared.Refusal.the-variants.{Shape, Pair, Trailing, Field, Name, Width, Space, Command, Station, Matter, Late, Early, Post, Idle, Unrun, Count, Full, Output}
 use Rattle.refusal.specs.Numbers.{stationsOf}
 use Rattle.refusal.proofs.Refusal as E
-use Rattle.exports.specs.EngineCodes.{firstOr}
+use Rattle.exports.specs.Told.{firstOr}
 use borrow.Author.Needs.{needs}
-use Rattle.exports.proofs.engine_calls.tell_station.Statement.{statement}
-use Rattle.exports.proofs.engine_calls.tell_station.Tie as tie
+use Rattle.exports.proofs.told.tell_station.Statement.{statement}
+use Rattle.exports.proofs.told.tell_station.Tie as tie
 
 -- the tags of the cases without a station
 abbrev others : List ℕ

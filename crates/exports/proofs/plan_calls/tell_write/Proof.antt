@@ -1,0 +1,43 @@
+-- A refusal's number and station, or 0 and the count of the bytes.
+use mathlib.Core.Path.{sym, ap, _∙_}
+use denote.Ref.{now}
+use Rattle.plan.specs.declared.WriteAnswer.{WriteAnswer}
+use Rattle.exports.specs.PlanCodes.{writeCode, measured}
+use borrow.Author.Needs.{needs}
+use Rattle.exports.proofs.plan_calls.tell_write.Statement.{statement}
+use Rattle.exports.proofs.plan_calls.tell_write.Tie as tie
+
+enum-known-a : tie.Need-enum-known-a
+enum-known-a c = search needs
+
+element-write-at : tie.Need-element-write-at
+element-write-at c = search needs
+
+enum-known-a-2 : tie.Need-enum-known-a-2
+enum-known-a-2 c = search needs
+
+tell-station-requires : tie.Need-tell-station-requires
+tell-station-requires c κs = search needs
+
+number-requires : tie.Need-number-requires
+number-requires c κs = search needs
+
+returns : tie.Need-returns
+returns c =
+    let args = c .before .before .before .args in
+    let a = c .before .a in
+    (sym (ap writeCode (a .given .1)), sym (ap (λ (x : WriteAnswer). measured x (now (args .at))) (a .given .1)))
+
+returns-2 : tie.Need-returns-2
+returns-2 c =
+    let args = c .before .before .before .before .before .before .args in
+    let a2 = c .before .before .before .before .a2 in
+    let told = c .before .tell-station in (
+      c .number .ensures ∙ sym (ap writeCode (a2 .given .1)),
+      told .ensures ∙ sym (ap (λ (x : WriteAnswer). measured x (now (args .at))) (a2 .given .1)),
+    )
+
+pub tell-write-spec : {M : Type 1} → statement M
+tell-write-spec =
+    tie.close
+    (tie.spec enum-known-a element-write-at enum-known-a-2 tell-station-requires number-requires returns returns-2)
