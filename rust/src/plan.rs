@@ -23,6 +23,9 @@ pub struct Station {
     len: usize,
 }
 
+// The layout that the proved calls have.
+const _: () = assert!(std::mem::size_of::<Config>() == 28 && std::mem::size_of::<Station>() == 56 && std::mem::offset_of!(Station, len) == 48);
+
 impl Station {
     /// A name of over 16 bytes, or with a byte outside 0x21 to 0x7E, is refused where the plan is written (5).
     pub fn new(config: Config, name: &[u8]) -> Station {

@@ -1,7 +1,7 @@
 -- The bits of a number: those of a power of two, of an exclusive or, and of a remainder by a power of two.
-use mathlib.Core.Path.{_≡_, sym, ap, _∙_}
+use mathlib.Core.Path.{_≡_, ap, _∙_}
 use mathlib.Core.Logic.{_⊎_, inl, inr}
-use Prim.Native.Nat.{ℕ, zero, suc, _+_, _-_, _*_, _/_, _%_, _^_, _≤_, _<_}
+use Prim.Native.Nat.{ℕ, zero, suc, _+_, _-_, _/_, _%_, _^_, _≤_, _<_}
 use native.Mathlib.Nat.{zero-div, mod-lt, div-eq-of-lt, div-eq-of-lt-le, lt-of-lt-of-le, le-refl, zero-lt-suc, one-mul, pow-suc, mul-comm, le-of-eq, mul-mod-left}
 use native.Mathlib.Omega.{arith}
 use lib.Pow.{pow-pos, pow-add, pow-lt, shl-shr}

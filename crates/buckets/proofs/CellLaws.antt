@@ -5,7 +5,6 @@ use mathlib.Core.List.{List}
 use Prim.Native.Nat.{ℕ, _+_, _*_, _^_, _≤_, _<_}
 use native.Mathlib.Omega.{arith}
 use lib.ListN.{length}
-use Rattle.words.specs.Le.{loadAt, storeAt}
 use Rattle.words.proofs.Laws.{Apart, load-other, load-stored, length-store}
 use Rattle.buckets.specs.Cells.{wordAt, putWord, halfAt, putHalf}
 use Rattle.bitmap.proofs.Cases.{lt-or}

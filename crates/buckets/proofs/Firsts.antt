@@ -2,11 +2,10 @@
 use mathlib.Core.Path.{_≡_, sym, ap, _∙_, subst}
 use mathlib.Core.Logic.{_⊎_, inl, inr}
 use mathlib.Core.List.{List}
-use Prim.Native.Nat.{ℕ, zero, suc, _+_, _-_, _*_, _/_, _%_, _≤_, _<_}
+use Prim.Native.Nat.{ℕ, suc, _+_, _-_, _*_, _/_, _%_, _≤_, _<_}
 use native.Mathlib.Omega.{arith}
 use Rattle.bitmap.specs.Child.{child, FirstChild}
-use Rattle.buckets.specs.Lists.{rankOf}
-use Rattle.buckets.specs.Table.{dueOf, bucketOf, nodeOf, rootOf, headOf, turnsTo, Due, Table, NotAfter, First}
+use Rattle.buckets.specs.Table.{bucketOf, nodeOf, rootOf, headOf, turnsTo, Due, Table, NotAfter, First}
 use Rattle.buckets.specs.Steps.{FirstLeaf, HeadOf}
 use Rattle.bitmap.proofs.Cases.{eq-or, lt-or}
 use Rattle.buckets.proofs.TreeLaws.{set-above, some-above, some-below}

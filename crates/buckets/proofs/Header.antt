@@ -4,10 +4,10 @@ use mathlib.Core.List.{List}
 use Prim.Native.Nat.{ℕ, _+_, _≤_, _<_}
 use native.Mathlib.Omega.{arith}
 use lib.ListN.{length}
-use Rattle.buckets.specs.Cells.{wordAt, putWord, halfAt}
+use Rattle.buckets.specs.Cells.{putWord, halfAt}
 use Rattle.buckets.specs.Lists.{Lists}
 use Rattle.buckets.specs.Tree.{Tree}
-use Rattle.buckets.specs.Table.{dueOf, bucketOf, nextOf, prevOf, nodeOf, rootOf, headOf, Table}
+use Rattle.buckets.specs.Table.{dueOf, bucketOf, nextOf, prevOf, Table}
 use Rattle.buckets.proofs.CellLaws.{length-word, word-other, half-word}
 
 -- a table is told by its dues and its half words

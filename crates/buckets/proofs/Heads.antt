@@ -1,7 +1,7 @@
 -- The head of a bucket leads to its least station, and a bucket has a head exactly when a station stands in it.
 use mathlib.Core.Path.{_≡_, sym, ap, _∙_, subst}
 use mathlib.Core.List.{List}
-use Prim.Native.Nat.{ℕ, zero, suc, _+_, _-_, _≤_, _<_}
+use Prim.Native.Nat.{ℕ, suc, _+_, _-_, _≤_, _<_}
 use native.Mathlib.Omega.{arith}
 use Rattle.buckets.specs.Lists.{rankOf}
 use Rattle.buckets.specs.Table.{dueOf, bucketOf, nextOf, prevOf, headOf, Due, Table, Waits}

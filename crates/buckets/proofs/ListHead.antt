@@ -1,13 +1,12 @@
 -- The first station of a list is the least in it: going back, the rank falls until the head is reached.
-use mathlib.Core.Path.{_≡_, refl, sym, ap, _∙_, subst}
+use mathlib.Core.Path.{_≡_, sym, ap, _∙_}
 use mathlib.Core.Logic.{_⊎_, inl, inr}
-use Prim.Native.Nat.{ℕ, zero, suc, _+_, _-_, _*_, _≤_, _<_}
-use native.Mathlib.Nat.{lt-irrefl, le-refl}
+use Prim.Native.Nat.{ℕ, zero, suc, _+_, _-_, _≤_, _<_}
+use native.Mathlib.Nat.{le-refl}
 use native.Mathlib.Omega.{arith}
-use borrow.Author.Tests.{lt-ltb, le-ltb}
-use Rattle.buckets.specs.Lists.{Live, listOf, rankOf, Back, Front, Lists}
-use Rattle.bitmap.proofs.Cases.{eq-or, lt-or}
-use Rattle.buckets.proofs.Places.{list-station, list-head, rank-station, rank-same, list-same, live-same, back-same, not-same}
+use Rattle.buckets.specs.Lists.{listOf, rankOf, Back, Front, Lists}
+use Rattle.bitmap.proofs.Cases.{lt-or}
+use Rattle.buckets.proofs.Places.{list-station, list-head}
 
 module _ (places : ℕ) (at due next prev : ℕ → ℕ) (L : Lists places at due next prev) where
   head-within : (k x : ℕ) → x < 256 → (due x ≡ 0 → ⊥) → rankOf due x < k → (h : ℕ) × (next (256 + at x) ≡ suc h) × (rankOf due h ≤ rankOf due x)

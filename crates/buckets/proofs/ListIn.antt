@@ -1,13 +1,11 @@
 -- A station is put in right behind a place p, where its rank belongs, and the lists stay linked.
-use mathlib.Core.Path.{_≡_, refl, sym, ap, _∙_, subst}
+use mathlib.Core.Path.{_≡_, sym, ap, _∙_, subst}
 use mathlib.Core.Logic.{_⊎_, inl, inr}
-use Prim.Native.Nat.{ℕ, zero, suc, _+_, _-_, _*_, _≤_, _<_}
-use native.Mathlib.Nat.{lt-irrefl, le-refl}
+use Prim.Native.Nat.{ℕ, suc, _+_, _-_, _*_, _≤_, _<_}
 use native.Mathlib.Omega.{arith}
-use borrow.Author.Tests.{lt-ltb, le-ltb}
 use Rattle.buckets.specs.Lists.{Live, listOf, rankOf, Back, Front, Lists}
-use Rattle.bitmap.proofs.Cases.{eq-or, lt-or}
-use Rattle.buckets.proofs.Places.{list-station, list-head, rank-station, rank-same, list-same, live-same, back-same, not-same}
+use Rattle.bitmap.proofs.Cases.{eq-or}
+use Rattle.buckets.proofs.Places.{list-station, rank-station, rank-same, list-same, live-same, back-same}
 
 module _
     (places : ℕ) (wide : 256 ≤ places) (at due next prev at′ due′ next′ prev′ : ℕ → ℕ) (s d p l : ℕ) (ls : s < 256) (rs : due s ≡ 0) (rd : d ≡ 0 → ⊥)

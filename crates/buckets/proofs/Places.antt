@@ -1,12 +1,11 @@
 -- The list and the rank of a place depend on its own due and list only.
 use mathlib.Core.Path.{_≡_, refl, sym, ap, _∙_, subst}
 use mathlib.Core.Logic.{_⊎_, inl, inr}
-use Prim.Native.Nat.{ℕ, zero, suc, _+_, _-_, _*_, _≤_, _<_}
-use native.Mathlib.Nat.{lt-irrefl, le-refl}
-use native.Mathlib.Omega.{arith}
+use Prim.Native.Nat.{ℕ, _+_, _-_, _*_, _≤_, _<_}
+use native.Mathlib.Nat.{lt-irrefl}
 use borrow.Author.Tests.{lt-ltb, le-ltb}
-use Rattle.buckets.specs.Lists.{Live, listOf, rankOf, Back, Front, Lists}
-use Rattle.bitmap.proofs.Cases.{eq-or, lt-or}
+use Rattle.buckets.specs.Lists.{Live, listOf, rankOf, Back, Lists}
+use Rattle.bitmap.proofs.Cases.{lt-or}
 
 pub list-station : (at : ℕ → ℕ) (p : ℕ) → p < 256 → listOf at p ≡ at p
 unfolding listOf

@@ -1,12 +1,12 @@
 -- An absent station is put into a bucket: what the stores of `insert` leave.
-use mathlib.Core.Path.{_≡_, refl, sym, ap, _∙_, subst}
+use mathlib.Core.Path.{_≡_, sym, ap, _∙_, subst}
 use mathlib.Core.Logic.{_⊎_, inl, inr}
 use mathlib.Core.List.{List}
-use Prim.Native.Nat.{ℕ, zero, suc, _+_, _-_, _*_, _^_, _≤_, _<_}
+use Prim.Native.Nat.{ℕ, suc, _+_, _-_, _*_, _≤_, _<_}
 use native.Mathlib.Omega.{arith}
 use lib.ListN.{length}
 use Rattle.buckets.specs.Cells.{wordAt, halfAt, putWord, putHalf}
-use Rattle.buckets.specs.Table.{dueOf, bucketOf, nextOf, prevOf, nodeOf, rootOf, headOf, Due, Table, Kept, Changed, Gone, Placed}
+use Rattle.buckets.specs.Table.{dueOf, bucketOf, nextOf, prevOf, headOf, Table, Kept, Gone, Placed}
 use Rattle.buckets.specs.Steps.{Place, Joined, Refreshed}
 use Rattle.buckets.proofs.CellLaws.{length-word, length-half, word-same, word-other, word-half, half-same, half-other, half-word}
 use Rattle.buckets.proofs.Places.{list-head}

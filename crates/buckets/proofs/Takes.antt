@@ -1,12 +1,12 @@
 -- A registered station is taken out of its bucket: what the stores of `unlink` leave.
-use mathlib.Core.Path.{_≡_, refl, sym, ap, _∙_, subst}
+use mathlib.Core.Path.{_≡_, refl, sym, ap, _∙_}
 use mathlib.Core.List.{List}
-use Prim.Native.Nat.{ℕ, zero, suc, _+_, _-_, _^_, _≤_, _<_}
+use Prim.Native.Nat.{ℕ, suc, _+_, _-_, _≤_, _<_}
 use native.Mathlib.Omega.{arith}
 use lib.ListN.{length}
 use Rattle.buckets.specs.Cells.{wordAt, halfAt, putWord}
 use Rattle.buckets.specs.Lists.{Back}
-use Rattle.buckets.specs.Table.{dueOf, bucketOf, nextOf, prevOf, nodeOf, rootOf, headOf, Due, Table, Kept, Gone}
+use Rattle.buckets.specs.Table.{dueOf, bucketOf, nextOf, prevOf, headOf, Due, Table, Kept, Gone}
 use Rattle.buckets.specs.Steps.{Joined, Refreshed}
 use Rattle.buckets.proofs.CellLaws.{length-word, word-same, word-other, half-word}
 use Rattle.buckets.proofs.Places.{list-head, lists-at}

@@ -1,15 +1,14 @@
 -- Bitmap words above places: one place changed with the bit above it, and what a bit says of the place below it.
-use mathlib.Core.Path.{_≡_, refl, sym, ap, _∙_}
-use mathlib.Core.Bool.{cond}
+use mathlib.Core.Path.{_≡_, sym, ap, _∙_}
 use mathlib.Core.Logic.{_⊎_, inl, inr}
-use Prim.Native.Nat.{ℕ, zero, suc, _+_, _*_, _/_, _%_, _≤_, _<_}
+use Prim.Native.Nat.{ℕ, _+_, _*_, _/_, _%_, _<_}
 use native.Mathlib.Nat.{mod-lt, div-add-mod'}
 use native.Mathlib.Omega.{arith}
 use lib.Dec.{ltb}
 use borrow.Author.Tests.{lt-ltb, le-ltb}
 use Rattle.bitmap.specs.Child.{child, WithChild}
 use Rattle.bitmap.proofs.ChildLaws.{child-zero}
-use Rattle.buckets.specs.Tree.{flag, Sums, Tree}
+use Rattle.buckets.specs.Tree.{flag, Sums}
 use Rattle.bitmap.proofs.Cases.{eq-or}
 
 -- ---- the flag of a number

@@ -1,6 +1,5 @@
 -- The bytes that an accepted opening, with the calls after it, leaves, and the state that the rules make of these calls (document 01, "What each number
 -- says": "buffers that no accepted opening .., with the calls accepted after it, left so").
-use mathlib.Core.Path.{_≡_}
 use mathlib.Core.List.{List}
 use Prim.Native.Nat.{ℕ}
 use Rattle.refusal.specs.declared.Refusal.{Refusal}

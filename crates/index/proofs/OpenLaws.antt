@@ -1,14 +1,13 @@
 -- Empty rings are made one after the other, then the slots go into the free ring in order.
 use mathlib.Core.Path.{_≡_, refl, sym, ap, _∙_, subst}
-use mathlib.Core.Logic.{_≢_, _⊎_, inl, inr}
-use mathlib.Core.Bool.{Bool, true, false, true≢false, _&&_}
+use mathlib.Core.Logic.{_≢_, inl, inr}
+use mathlib.Core.Bool.{Bool, true, false, true≢false}
 use mathlib.Core.List.{List, [], _∷_, _++_, append-nil}
 use Prim.Native.Nat.{ℕ, zero, suc, _+_, _*_, _≤_, _<_}
 use native.Mathlib.Nat.{add-zero}
 use native.Mathlib.Decide.{ℕ-discrete, decLt}
 use native.Mathlib.Numerals.{add-one}
 use native.Mathlib.Omega.{arith}
-use lib.Dec.{eqb, leb}
 use lib.ListN.{length}
 use borrow.Author.Tests.{eq-eqb, ne-eqb, le-leb}
 use Rattle.words.specs.Le.{loadAt, storeAt}
@@ -19,11 +18,10 @@ use Rattle.rings.proofs.Counts.{hit-ne, occurs-append}
 use Rattle.rings.proofs.Mirror.{last-snoc}
 use Rattle.rings.proofs.Frames.{store-frame, frame-same, frame-on, frame-wider}
 use Rattle.rings.proofs.Confined.{empty-frame, insert-frame}
-use Rattle.rings.proofs.Stores.{room-same}
 use Rattle.rings.proofs.Families.{free-all, rings-none, rings-empty, rings-insert, rings-elsewhere, rings-renamed}
 use Rattle.store.specs.Layout.{slotRow}
 use Rattle.index.specs.Shape.{linksAt, logAt, nodesOf, indexBytes, slotOf, inRange}
-use Rattle.index.specs.Stands.{Cell, hasRun, nodesBy, contents, statusAt, Free, Stands}
+use Rattle.index.specs.Stands.{contents, statusAt, Free}
 use Rattle.index.specs.Opening.{emptied, filled, places, Clears}
 
 -- ---- empty rings

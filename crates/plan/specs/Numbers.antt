@@ -1,7 +1,6 @@
 -- The paper's numbers of the plan's answers: the number that each answer says, and the numbers of each call in checking order (document 01, "What each
 -- number says, in checking order").
 use Prim.Native.Nat.{ℕ}
-use mathlib.Core.Bool.{Bool}
 use mathlib.Core.List.{List, [], _∷_, _++_}
 use lib.Dec.{ltb}
 use lib.ListN.{length}

@@ -1,8 +1,8 @@
 -- The bytes of a plan, and what is wrong with them (document 01, "Plan of a line" and numbers 1 to 5).
 use Prim.Native.Nat.{ℕ, zero, suc, _+_, _-_, _*_}
-use mathlib.Core.Bool.{Bool, true, false, not, _||_}
+use mathlib.Core.Bool.{Bool, false, not, _||_}
 use mathlib.Core.List.{List, [], _∷_, _++_}
-use lib.Dec.{ltb, leb, eqb}
+use lib.Dec.{ltb, eqb}
 use lib.ListN.{length, take, drop, replicate}
 use Rattle.words.specs.Le.{loadAt}
 use Rattle.line.specs.declared.Config.{Config}

@@ -13,12 +13,13 @@ use Rattle.rules.proofs.Replay.{Fresh, Clear}
 use Rattle.rules.proofs.Cascade.{Undone, undo-from}
 use Rattle.rules.proofs.Fuel.{undo-none}
 use Rattle.rules.proofs.Agree.{clear-none}
+use Rattle.rules.proofs.Count.{delete-same-runs}
 use Rattle.index.specs.Stands.{Cell, cell}
 use Rattle.queue.specs.Holds.{Has, Stores}
 use Rattle.queue.specs.Steps.{Becomes, Leaves}
 use Rattle.rollback.specs.Mid.{Mid, Comes}
 use Rattle.rollback.proofs.Cells.{has-held, from-same, from-on, same-node}
-use Rattle.rollback.proofs.Gone.{is-held, is-waiting, fresh-unsent, delete-as-many}
+use Rattle.rollback.proofs.Gone.{is-held, is-waiting, fresh-unsent}
 
 module _ {p : Plan} {n c now : ℕ} {xs : List ℕ} {q : Queue} {cells : List Cell} (ws : List Event) {st : States} {x : ℕ} (h : Held)
     (M : Mid p n c now xs q cells (insert (event h) ws) st) (m : Has (cell x h) cells) where
@@ -34,7 +35,7 @@ module _ {p : Plan} {n c now : ℕ} {xs : List ℕ} {q : Queue} {cells : List Ce
   unfolding remove
   removed {k} {ys} {zs} f C L = record {
     becomes = record { after = D .after; holds = D .holds; from = from-on (B .from) (D .from) };
-    undone = subst (λ j. k + j ≡ runs (q .held)) (sym (delete-as-many e (r .held) (U .clear))) (C .undone);
+    undone = subst (λ j. k + j ≡ runs (q .held)) (sym (delete-same-runs e (r .held) (U .clear))) (C .undone);
   }
     where
       e : Event

@@ -38,7 +38,7 @@ undos add-none = 0
 undos (add-next d c) = undos d + undos c
 
 -- taking out an event that is not run
-delete-same-runs : (x : Event) (h : List Held) → Clear (x .target) x h → runs (delete x h) ≡ runs h
+pub delete-same-runs : (x : Event) (h : List Held) → Clear (x .target) x h → runs (delete x h) ≡ runs h
 unfolding delete runs
 delete-same-runs x [] c = refl
 delete-same-runs x (unrun y ∷ h) c = go (same y x) (delete-same-runs x h c)

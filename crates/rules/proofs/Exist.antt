@@ -69,7 +69,7 @@ pub data IsHeld (y : Event) (h : List Held) : Type 0 where
   is-unrun : In (unrun y) h → IsHeld y h
   is-run : (b : State) → In (ran y b) h → IsHeld y h
 
-all-inserted : (P : Event → Type 0) (x : Event) (ws : List Event) → All P (insert x ws) → P x × All P ws
+pub all-inserted : (P : Event → Type 0) (x : Event) (ws : List Event) → All P (insert x ws) → P x × All P ws
 unfolding insert
 all-inserted P x [] a = a
 all-inserted P x (w ∷ ws) a = go (before w x) a (λ k. all-inserted P x ws k)
