@@ -19,7 +19,7 @@ example: library
 fuzz: library
 	cd rust && $(CARGO) run --release --bin fuzz -- $(CASES) $(SEED)
 
-# The engine against a plain machine on std's BinaryHeap, in one run; ROUNDS=5 by default. With Debian's libns3-dev and python3-simpy also against these.
+# The engine against a plain machine on std's BinaryHeap, in one run; ROUNDS=9 by default. With Debian's libns3-dev and python3-simpy also against these.
 benchmark: library
 	if [ -e /usr/include/ns3/core-module.h ]; then g++ -O2 -std=c++17 benchmarks/line_ns3.cc -lns3-core -o target/benchmark-ns3; fi
 	cd rust && $(CARGO) run --release --bin benchmark -- $(ROUNDS)

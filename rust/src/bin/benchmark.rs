@@ -1,10 +1,10 @@
 //! The engine against a plain machine on std's BinaryHeap that writes the same log, both in one run.
 //!
-//!     make benchmark [ROUNDS=5]
+//!     make benchmark [ROUNDS=9]
 //!
-//! Every figure is nanoseconds a committed event, the median of the rounds; in each round every machine of a row takes its turn. The engine runs lowest in batches and
-//! commits at every whole interval of simulated time that it can; a batch is 32 events. The heap steps to the same times and writes the same 24 bytes an event.
-//! Where Debian's libns3-dev and python3-simpy are installed, the same line on ns-3's core and on SimPy has a column (benchmarks/line_ns3.cc, line_simpy.py).
+//! Every figure is nanoseconds a committed event, the median of the rounds; in each round every machine of a row takes its turn, and a ratio is the median of the
+//! rounds' ratios. The engine runs lowest in batches of 32 events and commits at every whole interval of simulated time that it can. The heap steps to the same times
+//! and writes the same 24 bytes an event. Where Debian's libns3-dev and python3-simpy are installed, the same line on ns-3's core and on SimPy has a column (benchmarks/line_ns3.cc, line_simpy.py).
 use jambfennel::{Calendar, Engine, Matter};
 use std::hint::black_box;
 use std::process::Command;
@@ -155,32 +155,53 @@ fn calendar(n: u64, width: u64, cycles: u64) -> f64 {
     start.elapsed().as_nanos() as f64 / cycles as f64
 }
 
-fn median(mut xs: Vec<f64>) -> f64 {
-    xs.sort_by(f64::total_cmp);
-    xs[xs.len() / 2]
+/// The nanoseconds of one machine, a number for each round.
+#[derive(Clone, Default)]
+struct Rounds(Vec<f64>);
+
+impl Rounds {
+    fn median(&self) -> Option<f64> {
+        let mut sorted = self.0.clone();
+        sorted.sort_by(f64::total_cmp);
+        sorted.get(sorted.len() / 2).copied()
+    }
+
+    fn least(&self) -> Option<f64> {
+        self.0.iter().copied().min_by(f64::total_cmp)
+    }
+
+    fn cell(&self) -> String {
+        cell(self.median())
+    }
+
+    /// The median over the rounds of the ratio within a round: what slows the computer for a while slows both.
+    fn ratio(&self, base: &Rounds) -> String {
+        if self.0.len() != base.0.len() {
+            return "-".into();
+        }
+        let ratios = Rounds(self.0.iter().zip(&base.0).map(|(x, y)| x / y).collect());
+        ratios.median().map_or("-".into(), |x| format!("{x:.2}"))
+    }
+
+    /// The ratio of the two best rounds.
+    fn least_ratio(&self, base: &Rounds) -> String {
+        self.least().zip(base.least()).map_or("-".into(), |(x, y)| format!("{:.2}", x / y))
+    }
 }
 
-fn medians<const N: usize>(rounds: usize, mut turn: impl FnMut(usize) -> Option<f64>) -> [Option<f64>; N] {
-    let mut all: [Vec<f64>; N] = std::array::from_fn(|_| vec![]);
+/// In each round every machine takes its turn.
+fn rounds_of<const N: usize>(rounds: usize, mut turn: impl FnMut(usize) -> Option<f64>) -> [Rounds; N] {
+    let mut all: [Rounds; N] = std::array::from_fn(|_| Rounds::default());
     for _ in 0..rounds {
         for (k, column) in all.iter_mut().enumerate() {
-            if let Some(x) = turn(k) {
-                column.push(x);
-            }
+            column.0.extend(turn(k));
         }
     }
-    all.map(|column| (!column.is_empty()).then(|| median(column)))
+    all
 }
 
 fn cell(x: Option<f64>) -> String {
     x.map_or("-".into(), |x| format!("{x:.0}"))
-}
-
-fn ratio(x: Option<f64>, base: Option<f64>) -> String {
-    match (x, base) {
-        (Some(x), Some(base)) => format!("{:.2}", x / base),
-        _ => "-".into(),
-    }
 }
 
 /// One line alone, for a profiler: `valgrind --tool=callgrind benchmark profile engine 50000`, or heap.
@@ -196,7 +217,7 @@ fn main() {
         assert_eq!(profiled, "profile");
         return profile(which, events.parse().expect("a number of events"));
     }
-    let rounds = std::env::args().nth(1).map_or(5, |a| a.parse().expect("a number of rounds"));
+    let rounds = std::env::args().nth(1).map_or(9, |a| a.parse().expect("a number of rounds"));
     let events = 200_000;
     println!("| stations | shape | noise | capacity | interval | readers | engine | heap | engine / heap |\n|---|---|---|---|---|---|---|---|---|");
     for n in [16, 64, 256] {
@@ -211,8 +232,8 @@ fn main() {
                         interval /= 2;
                     }
                     let work = Work { n, fan, noise, readers, interval };
-                    let [a, b] = medians(rounds, |k| if k == 0 { engine(&work, capacity, 64, 0, events).map(|t| t.each()) } else { Some(heap(&work, events).each()) });
-                    println!("| {n} | {shape} | {share} | {capacity} | {interval} | {readers} | {} | {} | {} |", cell(a), cell(b), ratio(a, b));
+                    let [a, b] = rounds_of(rounds, |k| if k == 0 { engine(&work, capacity, 64, 0, events).map(|t| t.each()) } else { Some(heap(&work, events).each()) });
+                    println!("| {n} | {shape} | {share} | {capacity} | {interval} | {readers} | {} | {} | {} |", a.cell(), b.cell(), a.ratio(&b));
                 }
             }
         }
@@ -221,31 +242,39 @@ fn main() {
     for (n, fan, shape) in [(2, 1, "2 stations"), (16, 4, "16, tree of 4"), (32, 4, "32, tree of 4"), (64, 4, "64, tree of 4"), (256, 4, "256, tree of 4"), (16, 1, "16, chain")] {
         let readers = 15.min(n - 1);
         let work = Work { n, fan, noise: 107_374_182, readers, interval: 30_000 };
-        let [a, b, c] = medians(rounds, |k| engine(&work, [64, 512, 4096][k], 64, 0, events).map(|t| t.each()));
-        println!("| {shape}, {readers} reading | {} | {} | {} | {} |", cell(a), cell(b), cell(c), ratio(c, a));
+        let [a, b, c] = rounds_of(rounds, |k| engine(&work, [64, 512, 4096][k], 64, 0, events).map(|t| t.each()));
+        println!("| {shape}, {readers} reading | {} | {} | {} | {} |", a.cell(), b.cell(), c.cell(), c.ratio(&a));
     }
-    println!("\n| 256 stations, capacity 4096, noise 5 % | w 1 | 4 | 16 | 64 | 256 | 1024 | 4096 | heap | ns-3 | SimPy | best / heap | best / ns-3 |");
-    println!("|---|---|---|---|---|---|---|---|---|---|---|---|---|");
+    // from 16 to 256 stations, the same readers
+    let lines = [(16, 4), (256, 4), (16, 1), (256, 1)].map(|(n, fan)| Work { n, fan, noise: 107_374_182, readers: 15, interval: 15_000 });
+    let row: [Rounds; 4] = rounds_of(rounds, |k| engine(&lines[k], 4096, 64, 0, events).map(|t| t.each()));
+    println!("\n| 15 reading, capacity 4096 | 16 stations | 256 stations | 256 / 16 |\n|---|---|---|---|");
+    println!("| tree of 4 | {} | {} | {} |", row[0].cell(), row[1].cell(), row[1].ratio(&row[0]));
+    println!("| chain | {} | {} | {} |", row[2].cell(), row[3].cell(), row[3].ratio(&row[2]));
+    println!("\n| 256 stations, capacity 4096, noise 5 % | w 1 | 4 | 16 | 64 | 256 | 1024 | 4096 | heap | ns-3 | SimPy | best / heap | best rounds | best / ns-3 |");
+    println!("|---|---|---|---|---|---|---|---|---|---|---|---|---|---|");
     for (shape, fan, interval) in [("tree of 4", 4, MINUTE), ("chain", 1, 7_500)] {
         let work = Work { n: 256, fan, noise: 107_374_182, readers: 255, interval };
-        let row: [Option<f64>; 10] = medians(rounds, |k| match k {
+        let row: [Rounds; 10] = rounds_of(rounds, |k| match k {
             7 => Some(heap(&work, events).each()),
             8 => other("../target/benchmark-ns3", None, &work, events),
             9 => other("/usr/bin/python3", Some("../benchmarks/line_simpy.py"), &work, events / 20),
             _ => engine(&work, 4096, 4u64.pow(k as u32), 0, events).map(|t| t.each()),
         });
-        let best = row[..7].iter().flatten().copied().min_by(f64::total_cmp);
-        println!("| {shape} | {} | {} | {} |", row.map(cell).join(" | "), ratio(best, row[7]), ratio(best, row[8]));
+        let [.., heap, ns3, _] = &row;
+        let best = row[..7].iter().filter(|r| r.median().is_some()).min_by(|x, y| x.median().partial_cmp(&y.median()).unwrap()).cloned().unwrap_or_default();
+        let cells: Vec<String> = row.iter().map(Rounds::cell).collect();
+        println!("| {shape} | {} | {} | {} | {} |", cells.join(" | "), best.ratio(heap), best.least_ratio(heap), best.ratio(ns3));
     }
     println!("\n| late posts, 256 stations, capacity 4096 | none | undo 1 % | undo 10 % |\n|---|---|---|---|");
     for (shape, fan, interval) in [("tree of 4", 4, MINUTE), ("chain", 1, 7_500)] {
         let work = Work { n: 256, fan, noise: 107_374_182, readers: 255, interval };
-        let [a, b, c] = medians(rounds, |k| engine(&work, 4096, 64, [0, 1, 10][k], events).map(|t| t.each()));
-        println!("| {shape} | {} | {} | {} |", cell(a), cell(b), cell(c));
+        let [a, b, c] = rounds_of(rounds, |k| engine(&work, 4096, 64, [0, 1, 10][k], events).map(|t| t.each()));
+        println!("| {shape} | {} | {} | {} |", a.cell(), b.cell(), c.cell());
     }
     println!("\n| calendar alone, extract and register | w 1 | 64 | 4096 |\n|---|---|---|---|");
     for n in [16, 64, 256] {
-        let [a, b, c] = medians(rounds, |k| Some(calendar(n, [1, 64, 4096][k], 1_000_000)));
-        println!("| {n} stations | {} | {} | {} |", cell(a), cell(b), cell(c));
+        let [a, b, c] = rounds_of(rounds, |k| Some(calendar(n, [1, 64, 4096][k], 1_000_000)));
+        println!("| {n} stations | {} | {} | {} |", a.cell(), b.cell(), c.cell());
     }
 }
