@@ -1,11 +1,12 @@
--- The bits of a number: those of a power of two, of an exclusive or, and of a remainder by a power of two.
+-- The bits of a number: those of a power of two, of an or, of an exclusive or, and of a remainder by a power of two.
 use mathlib.Core.Path.{_≡_, ap, _∙_}
 use mathlib.Core.Logic.{_⊎_, inl, inr}
-use Prim.Native.Nat.{ℕ, zero, suc, _+_, _-_, _/_, _%_, _^_, _≤_, _<_}
+use Prim.Native.Nat.{ℕ, zero, suc, _+_, _-_, _/_, _%_, _^_, _≤_, _<_, suc-le-suc, max}
 use native.Mathlib.Nat.{zero-div, mod-lt, div-eq-of-lt, div-eq-of-lt-le, lt-of-lt-of-le, le-refl, zero-lt-suc, one-mul, pow-suc, mul-comm, le-of-eq, mul-mod-left}
+use native.Mathlib.Nat.{max-le, le-of-suc-le-suc}
 use native.Mathlib.Omega.{arith}
 use lib.Pow.{pow-pos, pow-add, pow-lt, shl-shr}
-use lib.Bits.{bitXor, xor-shr, xor-step, differ}
+use lib.Bits.{bitOr, or-shr, or-step, bitXor, xor-shr, xor-step, differ}
 use lib.Arith.{mod-mul, digits-div, digits-mod}
 use Rattle.bitmap.proofs.Cases.{lt-or}
 
@@ -28,6 +29,19 @@ pub bit-top : (x n : ℕ) → 2 ^ n ≤ x → x < 2 ^ suc n → bit x n ≡ 1
 bit-top x n l h =
     let q : x / 2 ^ n ≡ 1 = div-eq-of-lt-le (2 ^ n) (rw one-mul l) (lt-of-lt-of-le h (le-of-eq (pow-suc 2 n ∙ mul-comm (2 ^ n) 2))) in
     rw q
+
+-- ---- or
+
+max-lt : (a b : ℕ) → a < 2 → b < 2 → max a b < 2
+max-lt a b p q = suc-le-suc (max-le (le-of-suc-le-suc p) (le-of-suc-le-suc q))
+
+or-odd : (a b : ℕ) → bitOr a b % 2 ≡ max (a % 2) (b % 2)
+or-odd a b =
+    ap (λ (x : ℕ). x % 2) (or-step a b)
+    ∙ digits-mod (bitOr (a / 2) (b / 2)) (max-lt (a % 2) (b % 2) (mod-lt a (zero-lt-suc 1)) (mod-lt b (zero-lt-suc 1)))
+
+pub bit-or : (a b n : ℕ) → bit (bitOr a b) n ≡ max (bit a n) (bit b n)
+bit-or a b n = ap (λ (x : ℕ). x % 2) (or-shr a b n) ∙ or-odd (a / 2 ^ n) (b / 2 ^ n)
 
 -- ---- exclusive or
 

@@ -1,20 +1,17 @@
--- Counting leading zeros finds the first child, and an exclusive or with one bit changes one child: each law once, for every number a of children.
+-- Counting leading zeros finds the first child, and an or with one bit sets one child, which an exclusive or then clears: each law once, for every
+-- number a of children.
 use mathlib.Core.Path.{_≡_, refl, sym, ap, _∙_, subst}
-use mathlib.Core.Bool.{Bool, true, false, cond}
+use mathlib.Core.Bool.{true, false}
 use mathlib.Core.Logic.{_⊎_, inl, inr}
-use Prim.Native.Nat.{ℕ, zero, suc, _+_, _-_, _/_, _%_, _^_, _≤_, _<_}
-use native.Mathlib.Nat.{lt-of-lt-of-le, lt-irrefl, eq-zero-or-pos, mod-lt}
+use Prim.Native.Nat.{ℕ, zero, suc, _+_, _-_, _%_, _^_, _≤_, _<_, max}
+use native.Mathlib.Nat.{lt-of-lt-of-le, lt-irrefl, eq-zero-or-pos, mod-lt, max-zero, max-eq-right}
 use native.Mathlib.Omega.{arith}
 use lib.Pow.{pow-pos, pow-mono, pow-lt}
-use lib.Bits.{bitXor, xor-lt, differ}
+use lib.Bits.{bitOr, bitXor, or-lt, xor-lt, differ}
 use lib.Count.{leadingZeros, leading-top, leading-of-zero, leading-le}
 use Rattle.bitmap.specs.Child.{child, FirstChild, FirstFrom, WithChild}
 use Rattle.bitmap.proofs.Cases.{lt-or}
-use Rattle.bitmap.proofs.Bits.{bit, bit-lt, bit-zero, bit-high, bit-top, bit-xor, bit-pow-same, bit-pow-other, bit-mod}
-
-pub child-lt : (a x i : ℕ) → child a x i < 2
-unfolding child
-child-lt a x i = bit-lt x (a - 1 - i)
+use Rattle.bitmap.proofs.Bits.{bit, bit-lt, bit-zero, bit-high, bit-top, bit-or, bit-xor, bit-pow-same, bit-pow-other, bit-mod}
 
 pub child-zero : (a i : ℕ) → child a 0 i ≡ 0
 unfolding child
@@ -82,32 +79,29 @@ differ-zero : (n : ℕ) → differ n 0 ≡ n
 differ-zero zero = refl
 differ-zero (suc n) = refl
 
-differ-one : (b v : ℕ) → b < 2 → v < 2 → (b ≡ v → ⊥) → differ b 1 ≡ v
-differ-one zero zero p q h = absurd (h refl)
-differ-one zero (suc zero) p q h = refl
-differ-one zero (suc (suc v)) p q h = absurd (omega arith)
-differ-one (suc zero) zero p q h = refl
-differ-one (suc zero) (suc v) p q h = absurd (h (omega arith))
-differ-one (suc (suc b)) v p q h = absurd (omega arith)
-
-cond-lt : (on : Bool) → cond on 1 0 < 2
-cond-lt true = omega arith
-cond-lt false = omega arith
-
-pub child-kept : (a x i : ℕ) (on : Bool) (p : ℕ) → p ≡ 2 ^ (a - 1 - i) → x < 2 ^ a → x / p % 2 ≡ cond on 1 0 → WithChild a x i on x
-unfolding child
-child-kept a x i on p e h q = record { fits = h; this = ap (λ (y : ℕ). x / y % 2) (sym e) ∙ q; others = λ k l n. refl }
-
 -- p is the word in which child i alone is set
-pub child-toggled : (a x i : ℕ) (on : Bool) (p : ℕ) → p ≡ 2 ^ (a - 1 - i) → x < 2 ^ a → i < a → (x / p % 2 ≡ cond on 1 0 → ⊥) → WithChild a x i on (bitXor x p)
+pub child-on : (a x i p : ℕ) → p ≡ 2 ^ (a - 1 - i) → x < 2 ^ a → i < a → WithChild a x i true (bitOr x p)
 unfolding child
-child-toggled a x i on p e h l n =
+child-on a x i p e h l =
     let m : ℕ = a - 1 - i in
-    subst (λ (q : ℕ). WithChild a x i on (bitXor x q)) (sym e)
+    subst (λ (q : ℕ). WithChild a x i true (bitOr x q)) (sym e)
     record {
-      fits = xor-lt a x (2 ^ m) h (pow-lt (omega arith));
-      this =
-          bit-xor x (2 ^ m) m ∙ ap (differ (bit x m)) (bit-pow-same m)
-          ∙ differ-one (bit x m) (cond on 1 0) (bit-lt x m) (cond-lt on) (λ z. n (ap (λ (q : ℕ). x / q % 2) e ∙ z));
-      others = λ k kl ne. bit-xor x (2 ^ m) (a - 1 - k) ∙ ap (differ (bit x (a - 1 - k))) (bit-pow-other m (a - 1 - k) (omega arith)) ∙ differ-zero (bit x (a - 1 - k));
+      fits = or-lt a x (2 ^ m) h (pow-lt (omega arith));
+      this = bit-or x (2 ^ m) m ∙ ap (max (bit x m)) (bit-pow-same m) ∙ max-eq-right (omega (arith, bit-lt x m));
+      others = λ k kl ne.
+          bit-or x (2 ^ m) (a - 1 - k) ∙ ap (max (bit x (a - 1 - k))) (bit-pow-other m (a - 1 - k) (omega arith)) ∙ max-zero (bit x (a - 1 - k));
+    }
+
+-- a child that is set is clear after an exclusive or with its word
+pub child-off : (a x i p y : ℕ) → p ≡ 2 ^ (a - 1 - i) → i < a → WithChild a x i true y → WithChild a x i false (bitXor y p)
+unfolding child
+child-off a x i p y e l W =
+    let m : ℕ = a - 1 - i in
+    subst (λ (q : ℕ). WithChild a x i false (bitXor y q)) (sym e)
+    record {
+      fits = xor-lt a y (2 ^ m) (W .fits) (pow-lt (omega arith));
+      this = bit-xor y (2 ^ m) m ∙ ap (differ (bit y m)) (bit-pow-same m) ∙ ap (λ (b : ℕ). differ b 1) (W .this);
+      others = λ k kl ne.
+          bit-xor y (2 ^ m) (a - 1 - k) ∙ ap (differ (bit y (a - 1 - k))) (bit-pow-other m (a - 1 - k) (omega arith))
+          ∙ differ-zero (bit y (a - 1 - k)) ∙ W .others k kl ne;
     }

@@ -8,10 +8,10 @@ pub mod TreeLaws
 pub mod Joins
 pub mod Refreshes
 pub mod Finds
+pub mod Heads
 pub mod Changes
 pub mod Takes
 pub mod Puts
-pub mod Heads
 pub mod Firsts
 pub mod Laters
 pub mod Clears

@@ -7,15 +7,17 @@ use native.Mathlib.Omega.{arith}
 use lib.ListN.{length}
 use Rattle.buckets.specs.Cells.{wordAt, halfAt, putWord, putHalf}
 use Rattle.buckets.specs.Table.{dueOf, bucketOf, nextOf, prevOf, headOf, Table, Kept, Gone, Placed}
-use Rattle.buckets.specs.Steps.{Place, Joined, Refreshed}
+use Rattle.buckets.specs.Steps.{Place, Joined, Raised}
 use Rattle.buckets.proofs.CellLaws.{length-word, length-half, word-same, word-other, word-half, half-same, half-other, half-word}
-use Rattle.buckets.proofs.Places.{list-head}
+use Rattle.buckets.proofs.Places.{list-station, list-head}
+use Rattle.bitmap.proofs.Cases.{lt-or}
 use Rattle.buckets.proofs.ListIn.{lists-in}
+use Rattle.buckets.proofs.Heads.{head-some}
 use Rattle.buckets.proofs.Changes.{next-most, tree-same, changed}
 
 module _
     (s d p n list : ℕ) (xs ys zs us vs ws : List ℕ) (ls : s < 256)
-    (ey : ys ≡ putWord (8 + s) d xs) (ez : zs ≡ putHalf (4865 + s) list ys) (J : Joined s n zs us) (K : Joined p (suc s) us vs) (R : Refreshed list vs ws)
+    (ey : ys ≡ putWord (8 + s) d xs) (ez : zs ≡ putHalf (4865 + s) list ys) (J : Joined s n zs us) (K : Joined p (suc s) us vs) (R : Raised list vs ws)
   where
     in-size : length ws ≡ length xs
     in-size = R .size ∙ K .size ∙ J .size ∙ ap length ez ∙ length-half (4865 + s) list ys ∙ ap length ey ∙ length-word (8 + s) d xs
@@ -117,6 +119,23 @@ module _
                 let a : p - 256 ≡ list = sym (list-head (bucketOf xs) p q) ∙ P .list-is in
                 ne (omega arith)
 
+        -- the bucket's head leads to the station, or to what it led to before
+        in-filled : headOf vs list ≡ 0 → ⊥
+        in-filled z = go (lt-or p 256)
+          where
+            same : p < 256 → headOf vs list ≡ headOf xs list
+            same h = in-rest (256 + list) (omega arith) (omega arith) (omega arith) (omega arith) ∙ half-z (256 + list) (omega arith)
+
+            go : (p < 256) ⊎ (256 ≤ p) → ⊥
+            go (inl h) =
+                let e : bucketOf xs p ≡ list = sym (list-station (bucketOf xs) p h) ∙ P .list-is in
+                head-some xs T p h (P .live h) (ap (headOf xs) e ∙ sym (same h) ∙ z)
+            go (inr h) =
+                let a : p - 256 ≡ list = sym (list-head (bucketOf xs) p h) ∙ P .list-is in
+                let e : 256 + list ≡ p = omega arith in
+                let n : suc s ≡ 0 = sym (K .next long-u lp (omega arith)) ∙ ap (nextOf vs) (sym e) ∙ z in
+                omega arith
+
         bits : (k : ℕ) → 5121 ≤ k → halfAt k vs ≡ halfAt k xs
         bits k h = in-rest k (omega arith) (omega arith) (omega arith) (omega (arith, ln)) ∙ half-z k (omega arith)
 
@@ -128,7 +147,7 @@ module _
               (lists-in 4608 (omega arith) (bucketOf xs) (dueOf xs) (nextOf xs) (prevOf xs) (bucketOf ws) (dueOf ws) (nextOf ws) (prevOf ws) s d p list
               ls ed (λ z. omega arith) lp (P .live) (P .list-is) (P .below) (P .behind) in-bucket-s in-bucket
               in-this in-due in-next-s in-next-p in-next-o in-prev-s in-prev-n in-prev-o (T .lists))
-              (R .tree long-v ll (headOf xs) in-head (tree-same (headOf xs) xs vs bits (T .tree)));
+              (R .tree long-v ll (headOf xs) in-filled in-head (tree-same (headOf xs) xs vs bits (T .tree)));
           due-is = in-this;
           bucket-is = in-bucket-s;
         }

@@ -7,14 +7,15 @@ use lib.ListN.{length}
 use Rattle.buckets.specs.Cells.{wordAt, halfAt, putWord}
 use Rattle.buckets.specs.Lists.{Back}
 use Rattle.buckets.specs.Table.{dueOf, bucketOf, nextOf, prevOf, headOf, Due, Table, Kept, Gone}
-use Rattle.buckets.specs.Steps.{Joined, Refreshed}
+use Rattle.buckets.specs.Steps.{Joined, Lowered}
 use Rattle.buckets.proofs.CellLaws.{length-word, word-same, word-other, half-word}
 use Rattle.buckets.proofs.Places.{list-head, lists-at}
 use Rattle.buckets.proofs.ListOut.{lists-out}
+use Rattle.buckets.proofs.Heads.{head-some}
 use Rattle.buckets.proofs.Changes.{next-most, tree-same, changed}
 
 -- the caller's words stay, on any bytes
-pub take-kept : (s v p n list : ℕ) (xs ys zs us : List ℕ) → ys ≡ putWord (8 + s) v xs → Joined p n ys zs → Refreshed list zs us → Kept xs us
+pub take-kept : (s v p n list : ℕ) (xs ys zs us : List ℕ) → ys ≡ putWord (8 + s) v xs → Joined p n ys zs → Lowered list zs us → Kept xs us
 take-kept s v p n list xs ys zs us ey J R = record {
   size = R .size ∙ J .size ∙ ap length ey ∙ length-word (8 + s) v xs;
   words = λ i l. R .words i (omega arith) ∙ J .words i (omega arith) ∙ ap (wordAt i) ey ∙ word-other (8 + s) v xs i (omega arith);
@@ -23,7 +24,7 @@ take-kept s v p n list xs ys zs us ey J R = record {
 module _
     (xs ys zs us : List ℕ) (T : Table xs) (s p n list : ℕ) (ls : s < 256) (reg : Due xs s)
     (ep : p ≡ prevOf xs s) (en : n ≡ nextOf xs s) (el : list ≡ bucketOf xs s)
-    (ey : ys ≡ putWord (8 + s) 0 xs) (J : Joined p n ys zs) (R : Refreshed list zs us)
+    (ey : ys ≡ putWord (8 + s) 0 xs) (J : Joined p n ys zs) (R : Lowered list zs us)
   where
     long-y : 12932 ≤ length ys
     long-y = rw (ey, length-word) (T .long)
@@ -86,6 +87,10 @@ module _
             let a : prevOf xs s - 256 ≡ bucketOf xs s = sym (list-head (bucketOf xs) (prevOf xs s) q) ∙ B .list in
             ne (omega (arith, ep, a ∙ sym el))
 
+    -- the station stood in its bucket
+    filled : headOf xs list ≡ 0 → ⊥
+    filled = rw el (head-some xs T s ls reg)
+
     bits : (k : ℕ) → 5121 ≤ k → halfAt k zs ≡ halfAt k xs
     bits k h = J .others k (omega (arith, lp)) (omega (arith, ln)) ∙ half-y k
 
@@ -97,7 +102,7 @@ module _
           (lists-at 4608 (bucketOf xs) (bucketOf us) (dueOf us) (nextOf us) (prevOf us) (λ x l r. out-bucket x l)
           (lists-out 4608 (omega arith) (bucketOf xs) (dueOf xs) (nextOf xs) (prevOf xs) (dueOf us) (nextOf us) (prevOf us) s ls reg
           out-this out-due out-next out-next-o out-prev out-prev-o (T .lists)))
-          (R .tree long-z ll (headOf xs) out-head (tree-same (headOf xs) xs zs bits (T .tree)));
+          (R .tree long-z ll (headOf xs) filled out-head (tree-same (headOf xs) xs zs bits (T .tree)));
       due-is = out-this;
     }
 

@@ -42,6 +42,15 @@ pub sums-same : (a n : ℕ) (up low up′ low′ : ℕ → ℕ) → ((l : ℕ) �
     → Sums a n up low → Sums a n up′ low′
 sums-same a n up low up′ low′ hu hl S l h = ap (λ (y : ℕ). child a y (l % a)) (hu l h) ∙ S l h ∙ ap flag (sym (hl l h))
 
+-- one place changed that is not 0 before and after
+pub sums-filled : (a n : ℕ) (up low up′ low′ : ℕ → ℕ) (k : ℕ) → (low k ≡ 0 → ⊥) → (low′ k ≡ 0 → ⊥) → ((l : ℕ) → l < n → up′ (l / a) ≡ up (l / a))
+    → ((l : ℕ) → l < n → (l ≡ k → ⊥) → low′ l ≡ low l) → Sums a n up low → Sums a n up′ low′
+sums-filled a n up low up′ low′ k f g hu hl S l h = ap (λ (y : ℕ). child a y (l % a)) (hu l h) ∙ S l h ∙ go (eq-or l k)
+  where
+    go : (l ≡ k) ⊎ (l ≡ k → ⊥) → flag (low l) ≡ flag (low′ l)
+    go (inl e) = flag-some (low l) (λ z. f (ap low (sym e) ∙ z)) ∙ sym (flag-some (low′ l) (λ z. g (ap low′ (sym e) ∙ z)))
+    go (inr ne) = ap flag (sym (hl l h ne))
+
 -- ---- what a bit says
 
 -- above a place that is not 0 the bit is set, so the word is not 0

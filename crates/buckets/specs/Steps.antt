@@ -28,13 +28,22 @@ pub record Joined (p n : ℕ) (xs ys : List ℕ) : Type 0 where
   pub prev : 12932 ≤ length xs → p < 4608 → n ≤ 256 → halfAt (4608 + n) ys ≡ p
   pub others : (k : ℕ) → (k ≡ p → ⊥) → (k ≡ 4608 + n → ⊥) → halfAt k ys ≡ halfAt k xs
 
--- the bits above a bucket say whether it is empty, and nothing else is changed
-pub record Refreshed (list : ℕ) (xs ys : List ℕ) : Type 0 where
+-- the bits above a bucket say whether it is empty, and nothing else is changed. Before, the bits were right for heads that differ in this bucket at
+-- most, and of which `when` holds
+pub record Refreshed (when : (ℕ → ℕ) → Type 0) (list : ℕ) (xs ys : List ℕ) : Type 0 where
   pub size : length ys ≡ length xs
   pub words : (i : ℕ) → i < 264 → wordAt i ys ≡ wordAt i xs
   pub links : (k : ℕ) → k < 5121 → halfAt k ys ≡ halfAt k xs
-  pub tree : 12932 ≤ length xs → list < 4352 → (head : ℕ → ℕ) → ((l : ℕ) → l < 4352 → (l ≡ list → ⊥) → headOf xs l ≡ head l)
+  pub tree : 12932 ≤ length xs → list < 4352 → (head : ℕ → ℕ) → when head → ((l : ℕ) → l < 4352 → (l ≡ list → ⊥) → headOf xs l ≡ head l)
       → Tree 16 17 head (nodeOf xs) (rootOf xs) → Tree 16 17 (headOf ys) (nodeOf ys) (rootOf ys)
+
+-- the same of a bucket that is filled now
+abbrev pub Raised : ℕ → List ℕ → List ℕ → Type 0
+Raised list xs ys = Refreshed (λ _. headOf xs list ≡ 0 → ⊥) list xs ys
+
+-- the same of a bucket that was filled before
+abbrev pub Lowered : ℕ → List ℕ → List ℕ → Type 0
+Lowered list xs ys = Refreshed (λ head. head list ≡ 0 → ⊥) list xs ys
 
 -- leaf l is filled, and no filled leaf comes before it in ring order; l is 4096 where none is filled
 pub record FirstLeaf (xs : List ℕ) (slot l : ℕ) : Type 0 where

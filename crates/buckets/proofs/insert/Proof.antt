@@ -1,4 +1,4 @@
--- The station is joined in behind the place that was found, and the bits above its bucket are refreshed.
+-- The station is joined in behind the place that was found, and the bits above its bucket are raised.
 use mathlib.Core.Path.{subst}
 use Prim.Native.Nat.{ℕ}
 use native.Mathlib.Numerals.{add-one}
@@ -48,8 +48,8 @@ cast-join c = search needs
 join-requires-2 : tie.Need-join-requires-2
 join-requires-2 c κs = search needs
 
-refresh-requires : tie.Need-refresh-requires
-refresh-requires c κs = search needs
+raise-requires : tie.Need-raise-requires
+raise-requires c κs = search needs
 
 same-length : tie.Need-same-length
 same-length c = search needs
@@ -66,11 +66,11 @@ returns c =
     let set-half = back10 .before .before .before .before .set-half in
     let join = back10 .join in
     let join2 = c .before .before .before .before .before .before .join2 in
-    let refresh = c .before .before .refresh in
+    let raise = c .before .before .raise in
     let K = subst (λ (m : ℕ). Joined (find .result) m (join .last .0) (join2 .last .0)) (add-one (args .s)) (join2 .ensures) in (
-      put-kept _ _ _ _ _ _ _ _ _ _ _ (pre .0) (set-word .ensures) (set-half .ensures) (join .ensures) K (refresh .ensures),
+      put-kept _ _ _ _ _ _ _ _ _ _ _ (pre .0) (set-word .ensures) (set-half .ensures) (join .ensures) K (raise .ensures),
       λ T e.
-          put-in _ _ _ _ _ _ _ _ _ _ _ (pre .0) (set-word .ensures) (set-half .ensures) (join .ensures) K (refresh .ensures)
+          put-in _ _ _ _ _ _ _ _ _ _ _ (pre .0) (set-word .ensures) (set-half .ensures) (join .ensures) K (raise .ensures)
           T e (pre .1) (pre .2) (pre .3) (pre .4) (find .ensures .0) (find .ensures .1 (chained T)) (half .ensures),
     )
 
@@ -91,6 +91,6 @@ insert-spec =
     add-join
     cast-join
     join-requires-2
-    refresh-requires
+    raise-requires
     same-length
     returns)

@@ -1,4 +1,4 @@
--- The station's due is cleared, its neighbours are joined, and the bits above its bucket are refreshed.
+-- The station's due is cleared, its neighbours are joined, and the bits above its bucket are lowered.
 use borrow.Author.Needs.{needs}
 use Rattle.buckets.proofs.Takes.{take-kept, taken-out}
 use Rattle.buckets.proofs.unlink.Statement.{statement}
@@ -34,8 +34,8 @@ set-word-requires c κs = search needs
 join-requires : tie.Need-join-requires
 join-requires c κs = search needs
 
-refresh-requires : tie.Need-refresh-requires
-refresh-requires c κs = search needs
+lower-requires : tie.Need-lower-requires
+lower-requires c κs = search needs
 
 same-length : tie.Need-same-length
 same-length c = search needs
@@ -49,9 +49,9 @@ returns c =
     let half3 = back10 .before .before .half3 in
     let set-word = back10 .set-word in
     let join = c .before .before .before .before .before .before .join in
-    let refresh = c .before .before .refresh in (
-      take-kept _ 0 _ _ _ _ _ _ _ (set-word .ensures) (join .ensures) (refresh .ensures),
-      λ T r. taken-out _ _ _ _ T _ _ _ _ (pre) r (half .ensures) (half2 .ensures) (half3 .ensures) (set-word .ensures) (join .ensures) (refresh .ensures),
+    let lower = c .before .before .lower in (
+      take-kept _ 0 _ _ _ _ _ _ _ (set-word .ensures) (join .ensures) (lower .ensures),
+      λ T r. taken-out _ _ _ _ T _ _ _ _ (pre) r (half .ensures) (half2 .ensures) (half3 .ensures) (set-word .ensures) (join .ensures) (lower .ensures),
     )
 
 pub unlink-spec : {M : Type 1} → statement M
@@ -68,6 +68,6 @@ unlink-spec =
     add-set-word
     set-word-requires
     join-requires
-    refresh-requires
+    lower-requires
     same-length
     returns)
