@@ -5,7 +5,8 @@
 // over the same nodes has the log: all run events in the event order, with node 0 as its sentinel. The links stand behind the slots, the log's behind those.
 // A slot's number 2 is its status: 0 free, 1 unrun, 2 run.
 //
-// Each function takes any bytes and any numbers. Where n is over 256 or c over 4096 it does nothing.
+// Each function takes any bytes and any numbers. Where n is over 256 or c over 4096 it does nothing; put, mark, unmark, drop and release do nothing either where
+// the index does not lie whole in the buffer.
 
 ghost use mathlib.Core.Path.{_≡_};
 ghost use Prim.Native.Nat.{_+_, _-_, _*_, _≤_, _<_};

@@ -1,7 +1,6 @@
 // A plain machine over crate line, fed the two posts of document 01's worked list: it prints each event before 1001 as it runs it, with time,
 // target, kind, source, number and value, and then the stations' states. The four events are those that the document prints.
-ghost use mathlib.Core.Path.{_≡_};
-ghost use Prim.Native.Nat.{_<_, _≤_};
+ghost use Prim.Native.Nat.{_<_};
 use libc::STDOUT_FILENO;
 use line::Config;
 use line::Event;

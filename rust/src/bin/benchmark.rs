@@ -6,6 +6,8 @@
 //! rounds' ratios. The engine runs lowest in batches of 32 events and commits at every whole interval of simulated time that it can. The heap steps to the same times
 //! and writes the same 24 bytes an event. Where Debian's libns3-dev and python3-simpy are installed, the same line on ns-3's core and on SimPy has a column (benchmarks/line_ns3.cc, line_simpy.py).
 use jambfennel::{Calendar, Engine, Matter};
+use std::cmp::Reverse;
+use std::collections::BinaryHeap;
 use std::hint::black_box;
 use std::process::Command;
 use std::time::Instant;
@@ -47,13 +49,14 @@ impl Work {
     }
 }
 
-/// Committed events and the nanoseconds that they took.
-#[derive(Clone, Copy, Default)]
+/// Committed events and the nanoseconds that they took; with them the late posts, as station and time.
+#[derive(Clone, Default)]
 struct Took {
     events: u64,
     ns: u64,
     undone: u64,
     ran: u64,
+    late: Vec<(u64, u64)>,
 }
 
 impl Took {
@@ -88,8 +91,10 @@ fn engine(work: &Work, capacity: u64, width: u64, percent: u64, events: u64) -> 
         }
         if 100 * took.undone < percent * took.ran {
             let at = time - work.interval + dice.below(work.interval);
-            if let Ok(post) = engine.post(work.n - 1 - dice.below(work.readers.min(8)), at, Matter::Level(1)) {
+            let station = work.n - 1 - dice.below(work.readers.min(8));
+            if let Ok(post) = engine.post(station, at, Matter::Level(1)) {
                 took.undone += post.undone;
+                took.late.push((station, at));
             }
         }
         while let Ok(log) = engine.commit(time, &mut output) {
@@ -109,11 +114,15 @@ fn engine(work: &Work, capacity: u64, width: u64, percent: u64, events: u64) -> 
     Some(took)
 }
 
-fn heap(work: &Work, events: u64) -> Took {
+/// The heap; it is given the engine's late posts before it starts.
+fn heap(work: &Work, late: &[(u64, u64)], events: u64) -> Took {
     let line = work.line();
     let mut machine = Machine::new(&line);
     for (k, (station, time)) in work.posts().enumerate() {
         machine.post((time, station, 65_535, k as u64), (1, 0));
+    }
+    for (k, &(station, time)) in late.iter().enumerate() {
+        machine.post((time, station, 65_535, work.readers + k as u64), (3, 1));
     }
     let mut output = Vec::with_capacity(24 * 100_000);
     let (mut took, mut time) = (Took::default(), work.interval);
@@ -152,6 +161,22 @@ fn calendar(n: u64, width: u64, cycles: u64) -> f64 {
             calendar.advance(calendar.lowest().unwrap().time).unwrap();
         }
     }
+    start.elapsed().as_nanos() as f64 / cycles as f64
+}
+
+/// The same cycle on a heap of times and stations.
+fn times(n: u64, cycles: u64) -> f64 {
+    let mut heap = BinaryHeap::new();
+    let mut dice = Dice(11);
+    for s in 0..n {
+        heap.push(Reverse((dice.below(PERIOD), s)));
+    }
+    let start = Instant::now();
+    for _ in 0..cycles {
+        let Reverse((time, station)) = heap.pop().unwrap();
+        heap.push(Reverse((time + 250 + dice.below(PERIOD), station)));
+    }
+    black_box(&heap);
     start.elapsed().as_nanos() as f64 / cycles as f64
 }
 
@@ -207,7 +232,7 @@ fn cell(x: Option<f64>) -> String {
 /// One line alone, for a profiler: `valgrind --tool=callgrind benchmark profile engine 50000`, or heap.
 fn profile(which: &str, events: u64) {
     let work = Work { n: 256, fan: 4, noise: 107_374_182, readers: 255, interval: MINUTE };
-    let took = if which == "heap" { heap(&work, events) } else { engine(&work, 4096, 64, 0, events).unwrap() };
+    let took = if which == "heap" { heap(&work, &[], events) } else { engine(&work, 4096, 64, 0, events).unwrap() };
     println!("{} events, {:.0} ns each", took.events, took.each());
 }
 
@@ -232,7 +257,7 @@ fn main() {
                         interval /= 2;
                     }
                     let work = Work { n, fan, noise, readers, interval };
-                    let [a, b] = rounds_of(rounds, |k| if k == 0 { engine(&work, capacity, 64, 0, events).map(|t| t.each()) } else { Some(heap(&work, events).each()) });
+                    let [a, b] = rounds_of(rounds, |k| if k == 0 { engine(&work, capacity, 64, 0, events).map(|t| t.each()) } else { Some(heap(&work, &[], events).each()) });
                     println!("| {n} | {shape} | {share} | {capacity} | {interval} | {readers} | {} | {} | {} |", a.cell(), b.cell(), a.ratio(&b));
                 }
             }
@@ -256,7 +281,7 @@ fn main() {
     for (shape, fan, interval) in [("tree of 4", 4, MINUTE), ("chain", 1, 7_500)] {
         let work = Work { n: 256, fan, noise: 107_374_182, readers: 255, interval };
         let row: [Rounds; 10] = rounds_of(rounds, |k| match k {
-            7 => Some(heap(&work, events).each()),
+            7 => Some(heap(&work, &[], events).each()),
             8 => other("../target/benchmark-ns3", None, &work, events),
             9 => other("/usr/bin/python3", Some("../benchmarks/line_simpy.py"), &work, events / 20),
             _ => engine(&work, 4096, 4u64.pow(k as u32), 0, events).map(|t| t.each()),
@@ -266,15 +291,23 @@ fn main() {
         let cells: Vec<String> = row.iter().map(Rounds::cell).collect();
         println!("| {shape} | {} | {} | {} | {} |", cells.join(" | "), best.ratio(heap), best.least_ratio(heap), best.ratio(ns3));
     }
-    println!("\n| late posts, 256 stations, capacity 4096 | none | undo 1 % | undo 10 % |\n|---|---|---|---|");
+    println!("\n| late posts, 256 stations, capacity 4096 | none | undo 1 % | undo 10 % | heap, none late | heap, those of 10 % in time | 10 % / heap |\n|---|---|---|---|---|---|---|");
     for (shape, fan, interval) in [("tree of 4", 4, MINUTE), ("chain", 1, 7_500)] {
         let work = Work { n: 256, fan, noise: 107_374_182, readers: 255, interval };
-        let [a, b, c] = rounds_of(rounds, |k| engine(&work, 4096, 64, [0, 1, 10][k], events).map(|t| t.each()));
-        println!("| {shape} | {} | {} | {} |", a.cell(), b.cell(), c.cell());
+        let mut late = vec![];
+        let [a, b, c, d, e] = rounds_of(rounds, |k| match k {
+            3 => Some(heap(&work, &[], events).each()),
+            4 => Some(heap(&work, &late, events).each()),
+            _ => engine(&work, 4096, 64, [0, 1, 10][k], events).map(|took| {
+                late = took.late.clone();
+                took.each()
+            }),
+        });
+        println!("| {shape} | {} | {} | {} | {} | {} | {} |", a.cell(), b.cell(), c.cell(), d.cell(), e.cell(), c.ratio(&e));
     }
-    println!("\n| calendar alone, extract and register | w 1 | 64 | 4096 |\n|---|---|---|---|");
+    println!("\n| calendar alone, extract and register | w 1 | 64 | 4096 | heap | 64 / heap |\n|---|---|---|---|---|---|");
     for n in [16, 64, 256] {
-        let [a, b, c] = rounds_of(rounds, |k| Some(calendar(n, [1, 64, 4096][k], 1_000_000)));
-        println!("| {n} stations | {} | {} | {} |", a.cell(), b.cell(), c.cell());
+        let [a, b, c, d] = rounds_of(rounds, |k| Some(if k < 3 { calendar(n, [1, 64, 4096][k], 1_000_000) } else { times(n, 1_000_000) }));
+        println!("| {n} stations | {} | {} | {} | {} | {} |", a.cell(), b.cell(), c.cell(), d.cell(), b.ratio(&d));
     }
 }
