@@ -1,7 +1,7 @@
 #!/usr/bin/env python3
-"""Worked lists of calls for crate worked, from a reading of document 01 that shares nothing with the crates.
+"""Worked lists of calls for crate rules_worked, from a reading of document 01 that shares nothing with the crates.
 
-  python3 tools/worked.py > crates/worked/proofs/Lists.antt
+  python3 tools/worked.py > crates/rules_worked/proofs/Lists.antt
 
 Events stand in a dictionary by their key; undone is a difference of sets; a commit sorts. Before it writes, it runs many random lists and holds the
 joined logs and the records against a sequential machine with a heap.
@@ -264,7 +264,7 @@ use Rattle.rules.specs.Entry.{entry, entries}
 use Rattle.rules.specs.Calls.{postOf, with}
 use Rattle.rules.proofs.Functions.{runs, behind, orThis, latest, removeEach, undoFound, undoWithin, undoFrom, remove, add, addAll, runLeast}
 use Rattle.rules.proofs.Compute.{settle, postStep, retractStep, runStep, stationStep, lowestOf, commitStep, answerTo, answersTo}
-use Rattle.worked.proofs.Check.{nth, allIn, in-range, at, zeros, pairs, Gives, computed}
+use Rattle.rules_worked.proofs.Check.{nth, allIn, in-range, at, zeros, pairs, Gives, computed}
 """
 
 UNFOLDING = """    settle postStep retractStep runStep stationStep lowestOf commitStep answerTo answersTo

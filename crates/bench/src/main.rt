@@ -1,5 +1,5 @@
 // The bench program: plan.bin and command lines in, answers out.
 
 fn main() {
-    console::serve(b"plan.bin");
+    bench_console::serve(b"plan.bin");
 }

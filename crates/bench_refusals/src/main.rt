@@ -1,5 +1,5 @@
 // The bench, on a list that meets the refusals and the edges of the command lines.
 
 fn main() {
-    console::serve(b"plan.bin");
+    bench_console::serve(b"plan.bin");
 }

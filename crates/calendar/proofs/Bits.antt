@@ -9,12 +9,12 @@ use native.Mathlib.Omega.{arith}
 use lib.ListN.{getD}
 use lib.Count.{leadingZeros}
 use Rattle.words.proofs.Laws.{load-lt}
-use Rattle.bitmap.specs.Child.{child}
-use Rattle.bitmap.proofs.ChildLaws.{leading-first}
-use Rattle.buckets.specs.Cells.{halfAt}
-use Rattle.buckets.specs.Table.{dueOf, bucketOf, nodeOf, rootOf, headOf, Due, Table}
-use Rattle.buckets.proofs.TreeLaws.{set-above, some-above, some-below}
-use Rattle.buckets.proofs.Heads.{head-station, head-some}
+use Rattle.calendar_bitmap.specs.Child.{child}
+use Rattle.calendar_bitmap.proofs.ChildLaws.{leading-first}
+use Rattle.calendar_buckets.specs.Cells.{halfAt}
+use Rattle.calendar_buckets.specs.Table.{dueOf, bucketOf, nodeOf, rootOf, headOf, Due, Table}
+use Rattle.calendar_buckets.proofs.TreeLaws.{set-above, some-above, some-below}
+use Rattle.calendar_buckets.proofs.Heads.{head-station, head-some}
 use Rattle.calendar.specs.Ring.{slotOf, leafIn, ringEnd}
 use Rattle.calendar.specs.Rules.{Calendar}
 use Rattle.calendar.specs.Bytes.{widthOf, limitOf, Sound, stateOf}

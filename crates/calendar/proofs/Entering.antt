@@ -4,8 +4,8 @@ use mathlib.Core.Logic.{_⊎_, inl, inr}
 use mathlib.Core.List.{List}
 use Prim.Native.Nat.{ℕ, suc, _+_, _-_, _*_, _≤_, _<_}
 use native.Mathlib.Omega.{arith}
-use Rattle.buckets.specs.Table.{dueOf, bucketOf, bucketFor, Due, Kept, Changed, Gone, Placed}
-use Rattle.bitmap.proofs.Cases.{eq-or}
+use Rattle.calendar_buckets.specs.Table.{dueOf, bucketOf, bucketFor, Due, Kept, Changed, Gone, Placed}
+use Rattle.words.proofs.Cases.{eq-or}
 use Rattle.calendar.specs.Ring.{blockOf, slotOf, ringEnd, leafFor}
 use Rattle.calendar.specs.Bytes.{widthOf, floorOf, startOf, endOf, limitOf, slotIn, countOf, homeOf, Header, Sound}
 use Rattle.calendar.specs.Steps.{Entered}

@@ -7,9 +7,9 @@ use Prim.Native.Nat.{ℕ, _+_, _-_, _*_, _/_, _%_, _^_, _≤_, _<_}
 use native.Mathlib.Nat.{mul-pos, mul-le-mul-right, add-mul, div-mul-le-self, div-eq-of-lt-le}
 use native.Mathlib.Omega.{arith}
 use lib.Dec.{lit<}
-use Rattle.buckets.specs.Cells.{wordAt, putWord}
-use Rattle.buckets.specs.Table.{dueOf, bucketOf, bucketFor, Due}
-use Rattle.bitmap.proofs.Cases.{lt-or}
+use Rattle.calendar_buckets.specs.Cells.{wordAt, putWord}
+use Rattle.calendar_buckets.specs.Table.{dueOf, bucketOf, bucketFor, Due}
+use Rattle.words.proofs.Cases.{lt-or}
 use Rattle.calendar.specs.Ring.{blockOf, leafFor}
 use Rattle.calendar.specs.Bytes.{widthOf, floorOf, endOf, limitOf, countOf, homeOf, Header, Sound, stateOf}
 use Rattle.calendar.specs.Rules.{anyBefore}

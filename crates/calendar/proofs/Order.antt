@@ -4,10 +4,10 @@ use mathlib.Core.Logic.{_⊎_, inl, inr}
 use mathlib.Core.List.{List}
 use Prim.Native.Nat.{ℕ, suc, _+_, _-_, _*_, _/_, _%_, _≤_, _<_}
 use native.Mathlib.Omega.{arith}
-use Rattle.buckets.specs.Lists.{rankOf}
-use Rattle.buckets.specs.Table.{dueOf, bucketOf, bucketFor, Due, turnsTo, NotAfter, First, Waits}
-use Rattle.bitmap.proofs.Cases.{eq-or, lt-or}
-use Rattle.buckets.proofs.Places.{rank-station}
+use Rattle.calendar_buckets.specs.Lists.{rankOf}
+use Rattle.calendar_buckets.specs.Table.{dueOf, bucketOf, bucketFor, Due, turnsTo, NotAfter, First, Waits}
+use Rattle.words.proofs.Cases.{eq-or, lt-or}
+use Rattle.calendar_buckets.proofs.Places.{rank-station}
 use Rattle.calendar.specs.Ring.{blockOf, leafFor}
 use Rattle.calendar.specs.Bytes.{widthOf, floorOf, limitOf, slotIn, Sound}
 use Rattle.calendar.specs.Steps.{FirstOf, Nearest}

@@ -5,10 +5,10 @@ use mathlib.Core.List.{List}
 use Prim.Native.Nat.{ℕ, zero, suc, _+_, _-_, _*_, _≤_, _<_}
 use native.Mathlib.Nat.{le-refl}
 use native.Mathlib.Omega.{arith}
-use Rattle.buckets.specs.Lists.{rankOf}
-use Rattle.buckets.specs.Table.{dueOf, Waits, Later}
-use Rattle.bitmap.proofs.Cases.{eq-or, lt-or}
-use Rattle.buckets.proofs.Places.{rank-station}
+use Rattle.calendar_buckets.specs.Lists.{rankOf}
+use Rattle.calendar_buckets.specs.Table.{dueOf, Waits, Later}
+use Rattle.words.proofs.Cases.{eq-or, lt-or}
+use Rattle.calendar_buckets.proofs.Places.{rank-station}
 use Rattle.calendar.specs.Steps.{Nearest, Nearer}
 
 -- h waits, and no station below k that waits comes before it

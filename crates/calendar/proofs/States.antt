@@ -7,8 +7,8 @@ use mathlib.Core.List.{List}
 use Prim.Native.Nat.{ℕ, suc, _-_, _≤_, _<_}
 use native.Mathlib.Omega.{arith}
 use lib.ListN.{length, getD, set}
-use Rattle.buckets.specs.Table.{dueOf, Due}
-use Rattle.bitmap.proofs.Cases.{lt-or}
+use Rattle.calendar_buckets.specs.Table.{dueOf, Due}
+use Rattle.words.proofs.Cases.{lt-or}
 use Rattle.calendar.specs.Rules.{noneRegistered, withTime, advanced}
 use Rattle.calendar.specs.Bytes.{widthOf, floorOf, countOf, Sound, timeFor, timesFrom, stateOf}
 use Rattle.calendar.specs.Steps.{Entered, Risen}

@@ -9,7 +9,7 @@ use native.Mathlib.Omega.{arith}
 use lib.Dec.{ltb}
 use lib.ListN.{getD}
 use borrow.Author.Tests.{lt-ltb, le-ltb}
-use Rattle.bitmap.proofs.Cases.{lt-or}
+use Rattle.words.proofs.Cases.{lt-or}
 use Rattle.calendar.specs.Rules.{noneRegistered, anyBefore, LeastAt}
 
 pub none-some : {t : ℕ} → _≡_ {A = Option ℕ} none (some t) → ⊥

@@ -8,7 +8,7 @@ use native.Mathlib.Nat.{add-zero, add-suc, suc-add, zero-add}
 use native.Mathlib.Omega.{arith}
 use lib.ListN.{length, getD, set, replicate, length-set, List·getD-eq-default}
 use lib.Seq.{ext-getD, getD-set-same, getD-set-other}
-use Rattle.bitmap.proofs.Cases.{eq-or}
+use Rattle.words.proofs.Cases.{eq-or}
 use Rattle.calendar.specs.Bytes.{timeFor, timesFrom}
 
 -- ---- one time

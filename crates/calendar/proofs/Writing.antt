@@ -9,11 +9,11 @@ use lib.Dec.{eqb}
 use lib.ListN.{length}
 use borrow.Author.Tests.{eq-eqb, ne-eqb}
 use Rattle.refusal.specs.Tests.{horizon}
-use Rattle.buckets.specs.Cells.{wordAt, putWord}
-use Rattle.buckets.specs.Table.{dueOf, bucketOf, Table}
-use Rattle.bitmap.proofs.Cases.{eq-or}
-use Rattle.buckets.proofs.CellLaws.{length-word, word-same, word-other}
-use Rattle.buckets.proofs.Header.{header-due, header-bucket, header-table}
+use Rattle.calendar_buckets.specs.Cells.{wordAt, putWord}
+use Rattle.calendar_buckets.specs.Table.{dueOf, bucketOf, Table}
+use Rattle.words.proofs.Cases.{eq-or}
+use Rattle.calendar_buckets.proofs.CellLaws.{length-word, word-same, word-other}
+use Rattle.calendar_buckets.proofs.Header.{header-due, header-bucket, header-table}
 use Rattle.calendar.specs.Ring.{blockOf, slotOf, ringEnd}
 use Rattle.calendar.specs.Bytes.{widthOf, floorOf, startOf, endOf, limitOf, slotIn, countOf, Header}
 

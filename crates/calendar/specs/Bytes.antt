@@ -5,8 +5,8 @@ use mathlib.Core.List.{List, [], _∷_}
 use Prim.Native.Nat.{ℕ, zero, suc, _+_, _-_, _*_, _≤_, _<_}
 use lib.ListN.{length}
 use Rattle.refusal.specs.Tests.{horizon}
-use Rattle.buckets.specs.Cells.{wordAt}
-use Rattle.buckets.specs.Table.{dueOf, bucketOf, bucketFor, Due, Table}
+use Rattle.calendar_buckets.specs.Cells.{wordAt}
+use Rattle.calendar_buckets.specs.Table.{dueOf, bucketOf, bucketFor, Due, Table}
 use Rattle.calendar.specs.Ring.{blockOf, slotOf, ringEnd, leafFor}
 use Rattle.calendar.specs.Rules.{Calendar}
 

@@ -4,8 +4,8 @@ use mathlib.Core.Logic.{_⊎_}
 use mathlib.Core.List.{List}
 use Prim.Native.Nat.{ℕ, suc, _+_, _*_, _≤_, _<_}
 use lib.ListN.{length}
-use Rattle.buckets.specs.Lists.{rankOf}
-use Rattle.buckets.specs.Table.{dueOf, bucketOf, Due, Table, Kept, Waits}
+use Rattle.calendar_buckets.specs.Lists.{rankOf}
+use Rattle.calendar_buckets.specs.Table.{dueOf, bucketOf, Due, Table, Kept, Waits}
 use Rattle.calendar.specs.Bytes.{widthOf, floorOf, startOf, endOf, limitOf, slotIn, countOf, homeOf, Header, Sound}
 
 -- ---- the first station

@@ -12,17 +12,17 @@ use Rattle.line.specs.declared.State.{State}
 use Rattle.line.specs.Station.{initial}
 use Rattle.plan.specs.Plan as plan
 use Rattle.plan.specs.Plan.{offsetOf, stationAt}
-use Rattle.store.specs.Layout.{stationRow, slotRow}
-use Rattle.store.specs.Records.{stateAt, putState, configAt, putConfig, StateFits, ConfigFits}
-use Rattle.store.proofs.Cells.{length-write, read-written, read-beside}
-use Rattle.store.proofs.Rows.{configOf, stateOf, config-in, state-in, stations, row-other, station-room}
+use Rattle.engine_rows.specs.Layout.{stationRow, slotRow}
+use Rattle.engine_rows.specs.Records.{stateAt, putState, storedConfig, putConfig, StateFits, ConfigFits}
+use Rattle.engine_rows.proofs.Cells.{length-write, read-written, read-beside}
+use Rattle.engine_rows.proofs.Rows.{configOf, stateOf, config-in, state-in, stations, row-other, station-room}
 use Rattle.engine.specs.Represents.{lineOf}
 use Rattle.engine.specs.Steps.{Begun}
 
 -- stations 0 to s - 1 have them
 pub record BegunTo (bytes : List ℕ) (n s : ℕ) (xs ys : List ℕ) : Type 0 where
   pub size : length ys ≡ length xs
-  pub configs : slotRow n 0 ≤ length xs → (t : ℕ) → t < s → configAt (stationRow n t) ys ≡ lineOf bytes .config t
+  pub configs : slotRow n 0 ≤ length xs → (t : ℕ) → t < s → storedConfig (stationRow n t) ys ≡ lineOf bytes .config t
   pub states : slotRow n 0 ≤ length xs → (t : ℕ) → t < s → stateAt (stationRow n t + 32) ys ≡ initial (lineOf bytes) t
 
 pub begun-none : (bytes : List ℕ) (n : ℕ) (xs : List ℕ) → BegunTo bytes n 0 xs xs
@@ -70,7 +70,7 @@ module _ {bytes : List ℕ} {n s : ℕ} {xs ys : List ℕ} (B : BegunTo bytes n 
   size-config : length with-config ≡ length ys
   size-config = length-write (configOf n s) g ys
 
-  config-old : (t : ℕ) → t ≢ s → configAt (stationRow n t) with-both ≡ configAt (stationRow n t) ys
+  config-old : (t : ℕ) → t ≢ s → storedConfig (stationRow n t) with-both ≡ storedConfig (stationRow n t) ys
   config-old t d =
       row-other (state-in n s) (config-in n t) (stations n s t (λ q. d (sym q))) (firstOf g) with-config
       ∙ row-other (config-in n s) (config-in n t) (stations n s t (λ q. d (sym q))) g ys
@@ -80,7 +80,7 @@ module _ {bytes : List ℕ} {n s : ℕ} {xs ys : List ℕ} (B : BegunTo bytes n 
       row-other (state-in n s) (state-in n t) (stations n s t (λ q. d (sym q))) (firstOf g) with-config
       ∙ row-other (config-in n s) (state-in n t) (stations n s t (λ q. d (sym q))) g ys
 
-  config-new : slotRow n 0 ≤ length xs → configAt (stationRow n s) with-both ≡ g
+  config-new : slotRow n 0 ≤ length xs → storedConfig (stationRow n s) with-both ≡ g
   config-new h =
       read-beside (stateOf n s) (configOf n s) (firstOf g) with-config (inr (omega arith))
       ∙ read-written (configOf n s) g ys (station-room n s (length ys) l (omega (arith, B .size)) (config-in n s)) fits
@@ -97,7 +97,7 @@ module _ {bytes : List ℕ} {n s : ℕ} {xs ys : List ℕ} (B : BegunTo bytes n 
     states = λ h t k. state-at h t k (ℕ-discrete t s);
   }
     where
-      config-at : slotRow n 0 ≤ length xs → (t : ℕ) → t < s + 1 → Dec (t ≡ s) → configAt (stationRow n t) with-both ≡ lineOf bytes .config t
+      config-at : slotRow n 0 ≤ length xs → (t : ℕ) → t < s + 1 → Dec (t ≡ s) → storedConfig (stationRow n t) with-both ≡ lineOf bytes .config t
       config-at h t k (yes q) = rw q (config-new h ∙ e ∙ config-is bytes s)
       config-at h t k (no d) = config-old t d ∙ B .configs h t (omega arith)
 

@@ -15,7 +15,7 @@ use Rattle.rules.specs.Held.{unrunBefore, logged}
 use Rattle.rules.specs.Engine.{Engine, Commit}
 use Rattle.rules.specs.Checks.{checks}
 use Rattle.rules.specs.Calls.{refuse}
-use Rattle.queue.specs.Holds.{fitsIn, Holds}
+use Rattle.engine_events.specs.Holds.{fitsIn, Holds}
 use Rattle.engine.specs.declared.CommitAnswer.the-variants.{Refused}
 use Rattle.engine.specs.Represents.{Represents}
 use Rattle.engine.specs.Said.{commitSaid}

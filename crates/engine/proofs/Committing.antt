@@ -13,9 +13,9 @@ use Rattle.rules.specs.Held.{Held, event, In, unrunBefore, logged, kept}
 use Rattle.rules.specs.Engine.{Engine, Commit, Answer, Refused, Committed}
 use Rattle.rules.specs.Entry.{entries}
 use Rattle.rules.specs.Calls.{committed, Answers, commit}
-use Rattle.index.specs.Stands.{Cell}
-use Rattle.queue.specs.Holds.{heldOf, Holds}
-use Rattle.queue.specs.Steps.{Behind, Raises}
+use Rattle.engine_index.specs.Stands.{Cell}
+use Rattle.engine_events.specs.Holds.{heldOf, Holds}
+use Rattle.engine_events.specs.Promises.{Behind, Raises}
 use Rattle.engine.specs.declared.CommitAnswer.the-variants.{Done}
 use Rattle.engine.specs.Represents.{Represents}
 use Rattle.engine.specs.Said.{commitSaid}

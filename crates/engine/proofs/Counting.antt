@@ -13,16 +13,16 @@ use Rattle.rules.specs.Held.{event, Queue, logged}
 use Rattle.rings.specs.Table.{nextOf}
 use Rattle.rings.specs.Ring.{headOf}
 use Rattle.rings.proofs.Places.{first-of, next-of}
-use Rattle.store.specs.Layout.{slotRow}
-use Rattle.store.proofs.RecordLaws.{event-time}
-use Rattle.index.specs.Shape.{slotOf, logAt, IsSlot}
-use Rattle.index.specs.Stands.{Cell, HeldAt, Stored, Stands, hasRun, nodesBy}
-use Rattle.index.proofs.Shapes.{one}
-use Rattle.index.proofs.Slots.{held-event}
-use Rattle.index.proofs.Contents.{by-in}
-use Rattle.index.proofs.MarkLaws.{node-of}
-use Rattle.queue.specs.Holds.{Holds}
-use Rattle.queue.proofs.Splits.{middle-in}
+use Rattle.engine_rows.specs.Layout.{slotRow}
+use Rattle.engine_rows.proofs.RecordLaws.{event-time}
+use Rattle.engine_index.specs.Shape.{slotOf, logAt, IsSlot}
+use Rattle.engine_index.specs.Stands.{Cell, HeldAt, Stored, Stands, hasRun, nodesBy}
+use Rattle.engine_index.proofs.Shapes.{one}
+use Rattle.engine_index.proofs.Slots.{held-event}
+use Rattle.engine_index.proofs.Contents.{by-in}
+use Rattle.engine_index.proofs.MarkLaws.{node-of}
+use Rattle.engine_events.specs.Holds.{Holds}
+use Rattle.engine_events.proofs.Splits.{middle-in}
 use Rattle.engine.specs.Steps.{eventsOf, AllRun, Counts}
 use Rattle.engine.proofs.FoundSlots.{cell-slot}
 use Rattle.engine.proofs.Fronts.{AllEarly, AllLate, parted, logged-front, run-at, early-at, length-events}

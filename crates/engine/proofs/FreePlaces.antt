@@ -11,9 +11,9 @@ use lib.ListN.{length}
 use Rattle.rings.specs.Table.{nextOf}
 use Rattle.rings.specs.Ring.{headOf, RingIn}
 use Rattle.rings.proofs.Places.{next-of, first-of}
-use Rattle.index.specs.Shape.{linksAt, nodesOf}
-use Rattle.index.specs.Stands.{Cell, Stands}
-use Rattle.index.proofs.Contents.{contents-free}
+use Rattle.engine_index.specs.Shape.{linksAt, nodesOf}
+use Rattle.engine_index.specs.Stands.{Cell, Stands}
+use Rattle.engine_index.proofs.Contents.{contents-free}
 use Rattle.engine.specs.Steps.{Full, HasRoom}
 
 -- r says of m what the f free places do

@@ -12,8 +12,8 @@ use Rattle.line.proofs.Order.{asym, later-time}
 use Rattle.line.proofs.All.{All}
 use Rattle.rules.specs.Held.{Held, unrun, ran, event, unrunBefore, logged, kept}
 use Rattle.rules.proofs.Commit.{Early, early, late, isEarly}
-use Rattle.index.specs.Stands.{Cell, cell, AllBehind, Sorted, hasRun}
-use Rattle.queue.specs.Holds.{heldOf}
+use Rattle.engine_index.specs.Stands.{Cell, cell, AllBehind, Sorted, hasRun}
+use Rattle.engine_events.specs.Holds.{heldOf}
 use Rattle.engine.specs.Steps.{eventsOf, AllRun}
 
 abbrev pub AllEarly : ℕ → List Cell → Type 0

@@ -15,13 +15,13 @@ use Rattle.rules.specs.Held.{Queue}
 use Rattle.rules.specs.Engine.{Engine}
 use Rattle.rings.specs.Table.{Frame}
 use Rattle.rings.proofs.Frames.{store-frame, frame-wider}
-use Rattle.store.proofs.Rows.{words}
-use Rattle.index.specs.Stands.{Cell}
-use Rattle.queue.specs.Holds.{part, fitsIn, Holds}
-use Rattle.queue.specs.Steps.{Behind}
-use Rattle.queue.proofs.Parts.{byte-kept}
-use Rattle.queue.proofs.Keeps.{stores-kept}
-use Rattle.queue.proofs.Fitting.{stores-fit}
+use Rattle.engine_rows.proofs.Rows.{words}
+use Rattle.engine_index.specs.Stands.{Cell}
+use Rattle.engine_events.specs.Holds.{part, fitsIn, Holds}
+use Rattle.engine_events.specs.Promises.{Behind}
+use Rattle.engine_events.proofs.Parts.{byte-kept}
+use Rattle.engine_events.proofs.Keeps.{stores-kept}
+use Rattle.engine_events.proofs.Fitting.{stores-fit}
 use Rattle.engine.specs.Represents.{Represents}
 use Rattle.engine.specs.Steps.{atMost}
 

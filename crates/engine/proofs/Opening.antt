@@ -9,7 +9,7 @@ use Rattle.refusal.specs.declared.Refusal.{Refusal}
 use Rattle.refusal.specs.declared.Refusal.the-variants.{Width, Space}
 use Rattle.words.specs.Le.{storeAt}
 use Rattle.words.proofs.Laws.{length-store}
-use Rattle.line.specs.Station.{Plan, InRange, initial}
+use Rattle.line.specs.Station.{InRange, initial}
 use Rattle.rules.specs.Engine.{opened}
 use Rattle.rules.specs.Demand.{end}
 use Rattle.plan.specs.declared.ReadAnswer.{ReadAnswer}
@@ -17,12 +17,12 @@ use Rattle.plan.specs.declared.ReadAnswer.the-variants.{Stations, Refused as Un
 use Rattle.plan.specs.Plan.{count, stationAt}
 use Rattle.plan.specs.Reading.{judging}
 use Rattle.plan.proofs.Accepted.{Accepted, accepted, accepted-in-range}
-use Rattle.store.specs.Layout.{stationRow}
-use Rattle.store.specs.Records.{stateAt, configAt}
-use Rattle.store.proofs.Rows.{word-in, config-in, state-in, header-station, row-other}
-use Rattle.queue.specs.Holds.{Holds}
-use Rattle.queue.specs.Steps.{Behind, Clears}
-use Rattle.queue.proofs.Fitting.{fits-in}
+use Rattle.engine_rows.specs.Layout.{stationRow}
+use Rattle.engine_rows.specs.Records.{stateAt, storedConfig}
+use Rattle.engine_rows.proofs.Rows.{word-in, config-in, state-in, header-station, row-other}
+use Rattle.engine_events.specs.Holds.{Holds}
+use Rattle.engine_events.specs.Promises.{Behind, ClearsEvents}
+use Rattle.engine_events.proofs.Fitting.{fits-in}
 use Rattle.engine.specs.declared.OpenAnswer.{OpenAnswer}
 use Rattle.engine.specs.declared.OpenAnswer.the-variants.{Done, Refused as Unopened}
 use Rattle.engine.specs.Represents.{lineOf, Represents}
@@ -63,7 +63,7 @@ module _ (plan : List ℕ) {n : ℕ} (e : judging plan ≡ Stations n) (width ca
 -- ---- the header
 
 module _ (n : ℕ) (i v : ℕ) (xs : List ℕ) (h : i < 8) where
-  header-config : (s : ℕ) → configAt (stationRow n s) (storeAt 8 (8 * i) v xs) ≡ configAt (stationRow n s) xs
+  header-config : (s : ℕ) → storedConfig (stationRow n s) (storeAt 8 (8 * i) v xs) ≡ storedConfig (stationRow n s) xs
   header-config s = row-other (word-in i h) (config-in n s) (header-station n s) v xs
 
   header-state : (s : ℕ) → stateAt (stationRow n s + 32) (storeAt 8 (8 * i) v xs) ≡ stateAt (stationRow n s + 32) xs
@@ -87,20 +87,16 @@ unfolding lineOf
 line-range plan n e =
     subst (λ (k : ℕ). InRange (record { count = k; config = λ s. stationAt plan s .config })) (accepted plan n e .counted) (accepted-in-range plan n e)
 
-opened-holds : (p : Plan) (c : ℕ) → (opened p c .capacity ≡ c) × (opened p c .now ≡ 0) × (opened p c .next ≡ 0)
-unfolding opened
-opened-holds p c = (refl, refl, refl)
-
 module _ {plan : List ℕ} {n c width : ℕ} {xs ys zs : List ℕ} (e : judging plan ≡ Stations n) (g : 1 ≤ width) (h : width ≤ 1048576) (j : 2 ≤ c)
     (k : c ≤ 4096) (l : 32768 + 256 * n + 256 * c ≤ length xs) (B : Begun plan n xs ys) (F : Behind (headed n c ys) zs)
-    (C : Clears n c width (headed n c ys) zs) where
+    (C : ClearsEvents n c width (headed n c ys) zs) where
   a : Accepted plan n
   a = accepted plan n e
 
   counts : lineOf plan .count ≡ n
   counts = line-count plan ∙ sym (a .counted)
 
-  configs : (s : ℕ) → s < n → configAt (stationRow n s) (headed n c ys) ≡ lineOf plan .config s
+  configs : (s : ℕ) → s < n → storedConfig (stationRow n s) (headed n c ys) ≡ lineOf plan .config s
   configs s b =
       header-config n 3 0 _ (omega arith) s ∙ header-config n 2 0 _ (omega arith) s ∙ header-config n 1 c _ (omega arith) s
       ∙ header-config n 0 n ys (omega arith) s ∙ B .configs (omega (arith, j)) s b
@@ -152,11 +148,11 @@ unread {width = width} {capacity = capacity} {xs = xs} r e = unopened r (ap (λ 
 
 pub opened-call : {plan : List ℕ} {n c width : ℕ} {xs y₀ y₁ y₂ y₃ y₄ zs : List ℕ} → judging plan ≡ Stations n → 1 ≤ width → width ≤ 1048576 → 2 ≤ c
     → c ≤ 4096 → 32768 + 256 * n + 256 * c ≤ length xs → Begun plan n xs y₀ → y₁ ≡ storeAt 8 0 n y₀ → y₂ ≡ storeAt 8 8 c y₁ → y₃ ≡ storeAt 8 16 0 y₂
-    → y₄ ≡ storeAt 8 24 0 y₃ → Behind y₄ zs → Clears n c width y₄ zs → Opens plan width c xs Done zs
+    → y₄ ≡ storeAt 8 24 0 y₃ → Behind y₄ zs → ClearsEvents n c width y₄ zs → Opens plan width c xs Done zs
 opened-call {plan} {n} {c} {width} {xs} {y₀} {y₁} {y₂} {y₃} {y₄} {zs} e g h j k l B a₁ a₂ a₃ a₄ F C =
     let q : y₄ ≡ headed n c y₀ = rw (a₄, a₃, a₂, a₁) in
     record {
       answer = done plan e width c (length xs) g h j k l;
       refusal = λ r z. let z : _≡_ {A = ℕ} 0 1 = cc in absurd (omega arith);
-      opens = λ _. opens e g h j k l B (subst (λ (us : List ℕ). Behind us zs) q F) (subst (λ (us : List ℕ). Clears n c width us zs) q C);
+      opens = λ _. opens e g h j k l B (subst (λ (us : List ℕ). Behind us zs) q F) (subst (λ (us : List ℕ). ClearsEvents n c width us zs) q C);
     }

@@ -12,12 +12,12 @@ use Rattle.line.specs.declared.Event.{Event}
 use Rattle.line.specs.Event.{posted}
 use Rattle.line.specs.Station.{Plan}
 use Rattle.rules.specs.Held.{Held, unrun, ran, event, Queue, Found, heldPost}
-use Rattle.store.specs.Layout.{slotRow}
-use Rattle.store.specs.Records.{eventAt}
-use Rattle.index.specs.Shape.{slotOf}
-use Rattle.index.specs.Stands.{Cell, cell, statusAt, HeldAt}
-use Rattle.queue.specs.Holds.{heldOf, Has, Holds}
-use Rattle.queue.proofs.Members.{member, member-slot}
+use Rattle.engine_rows.specs.Layout.{slotRow}
+use Rattle.engine_rows.specs.Records.{eventAt}
+use Rattle.engine_index.specs.Shape.{slotOf}
+use Rattle.engine_index.specs.Stands.{Cell, cell, statusAt, HeldAt}
+use Rattle.engine_events.specs.Holds.{heldOf, Has, Holds}
+use Rattle.engine_events.proofs.Members.{member, member-slot}
 use Rattle.engine.specs.Steps.{isPostAt, FindsPost}
 use Rattle.engine.proofs.EverySlot.{cell-or-free}
 

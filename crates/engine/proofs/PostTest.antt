@@ -10,8 +10,8 @@ use lib.Dec.{eqb}
 use Rattle.words.specs.Le.{loadAt}
 use Rattle.line.specs.declared.Event.{Event}
 use Rattle.line.specs.Event.{posted}
-use Rattle.store.specs.Layout.{slotRow}
-use Rattle.store.specs.Records.{eventAt}
+use Rattle.engine_rows.specs.Layout.{slotRow}
+use Rattle.engine_rows.specs.Records.{eventAt}
 use Rattle.engine.specs.Steps.{isPostAt}
 
 module _ (xs : List ℕ) (n i number : ℕ) {r : ℕ} (s : r ≡ loadAt 2 (slotRow n i + 56 + 2 * 2) xs) where

@@ -17,7 +17,7 @@ use Rattle.line.specs.declared.Matter.{Matter}
 use Rattle.line.specs.declared.Matter.the-variants.{Read, Frame, Level}
 use Rattle.line.specs.declared.Meant.the-variants.{Means, Refused as Unsuited}
 use Rattle.line.specs.Event.{posted}
-use Rattle.line.specs.Matter.{unless, matterOf, valueOf}
+use Rattle.line.specs.Matter.{suited, matterOf, valueOf}
 use Rattle.line.specs.Station.{Plan}
 use Rattle.rules.specs.Held.{unrun, Queue, undone}
 use Rattle.rules.specs.Undo.{Does, Add}
@@ -30,12 +30,12 @@ use Rattle.rules.proofs.Agree.{does-agree}
 use Rattle.rules.proofs.Exist.{can-add}
 use Rattle.rules.proofs.Count.{undone-undos, does-falls}
 use Rattle.rules.proofs.Invariant.{post-new}
-use Rattle.store.specs.Records.{EventFits}
-use Rattle.index.specs.Stands.{cell}
-use Rattle.queue.specs.Steps.{Behind}
-use Rattle.rollback.specs.Mid.{Comes}
-use Rattle.rollback.specs.Steps.{Adds}
-use Rattle.rollback.proofs.Cells.{held-length}
+use Rattle.engine_rows.specs.Records.{EventFits}
+use Rattle.engine_index.specs.Stands.{cell}
+use Rattle.engine_events.specs.Promises.{Behind}
+use Rattle.engine_rollback.specs.Mid.{RollsTo}
+use Rattle.engine_rollback.specs.Promises.{Adds}
+use Rattle.engine_rollback.proofs.Cells.{held-length}
 use Rattle.engine.specs.Represents.{Represents}
 use Rattle.engine.specs.Promises.{Becomes, Answered}
 use Rattle.engine.specs.Steps.{atMost, Full}
@@ -47,7 +47,7 @@ use Rattle.engine.proofs.Refusing.{refusing}
 
 -- ---- the value of a matter that a kind and a value mean
 
-suits : (v : Bool) (a m : Matter) → valueOf a < 2 ^ 32 → unless v a ≡ Means m → valueOf m < 2 ^ 32
+suits : (v : Bool) (a m : Matter) → valueOf a < 2 ^ 32 → suited v a ≡ Means m → valueOf m < 2 ^ 32
 suits true a m l e = let z : a ≡ m = cc in rw z at l
 suits false a m l e = let z : _≡_ {A = ℕ} 0 1 = cc in absurd (omega arith)
 
@@ -56,7 +56,7 @@ unfolding matterOf
 matter-fits n kind value m h e = go (eqb kind 1) (eqb kind 2) (eqb kind 3) (ltb value n) (leb value 4294967295) refl refl e
   where
     go : (a b d v w : Bool) → ltb value n ≡ v → leb value 4294967295 ≡ w
-        → cond a (unless (eqb value 0) Read) (cond b (unless v (Frame value)) (cond d (unless w (Level value)) (Unsuited N.Matter))) ≡ Means m
+        → cond a (suited (eqb value 0) Read) (cond b (suited v (Frame value)) (cond d (suited w (Level value)) (Unsuited N.Matter))) ≡ Means m
         → valueOf m < 2 ^ 32
     go true b d v w i j k = suits (eqb value 0) Read m (omega arith) k
     go false true d true w i j k = suits true (Frame value) m (omega (arith, ltb-true value n i)) k
@@ -101,7 +101,7 @@ module _ {p : Plan} {e : Engine} {xs : List ℕ} (R : Represents p e xs) (s t ki
       let d = can-add p (R .range) (e .queue) (waiting R) (invariant R .machine .states) (invariant R .ok) (neat R) x in
       subst (Does p (Add x) (e .queue)) (does-agree p (d .1) (neat R) inside new .0) (d .1)
 
-  comes : Comes p (p .count) (e .capacity) (e .now) j (e .queue) ys left (cell node (unrun x) ∷ R .cells)
+  comes : RollsTo p (p .count) (e .capacity) (e .now) j (e .queue) ys left (cell node (unrun x) ∷ R .cells)
   unfolding x left postOf
   comes =
       D p (e .now) (e .queue) (R .cells) (waiting R) (invariant R .machine .states) (mid R) v fits inside w l (as-new x (e .queue .held) new)

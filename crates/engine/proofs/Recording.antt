@@ -15,14 +15,14 @@ use Rattle.rules.specs.Engine.{Engine, Record, Refused, Recorded}
 use Rattle.rules.specs.Checks.{checks}
 use Rattle.rules.specs.Calls.{refuse, recorded}
 use Rattle.rings.specs.Table.{nextOf}
-use Rattle.store.specs.Layout.{stationRow, slotRow}
-use Rattle.store.specs.Records.{stateAt}
-use Rattle.index.specs.Shape.{linksAt, slotOf}
-use Rattle.index.specs.Stands.{Cell, cell, ringOf, Stands, NoneIn}
-use Rattle.index.proofs.Ends.{first-in, next-none}
-use Rattle.index.proofs.MarkLaws.{node-of}
-use Rattle.index.proofs.Searches.{First, none, some, first}
-use Rattle.queue.specs.Holds.{heldOf}
+use Rattle.engine_rows.specs.Layout.{stationRow, slotRow}
+use Rattle.engine_rows.specs.Records.{stateAt}
+use Rattle.engine_index.specs.Shape.{linksAt, slotOf}
+use Rattle.engine_index.specs.Stands.{Cell, cell, ringOf, Stands, NoneIn}
+use Rattle.engine_index.proofs.Ends.{first-in, next-none}
+use Rattle.engine_index.proofs.MarkLaws.{node-of}
+use Rattle.engine_index.proofs.Searches.{First, none, some, first}
+use Rattle.engine_events.specs.Holds.{heldOf}
 use Rattle.engine.specs.Represents.{Represents}
 use Rattle.engine.specs.Promises.{Becomes, Answered}
 use Rattle.engine.specs.Steps.{atMost}

@@ -21,12 +21,12 @@ use Rattle.rules.proofs.Cascade.{Ok}
 use Rattle.rules.proofs.Exist.{IsHeld, is-unrun, is-run, can-remove}
 use Rattle.rules.proofs.Agree.{does-agree}
 use Rattle.rules.proofs.Count.{undone-undos, does-falls}
-use Rattle.index.specs.Stands.{cell}
-use Rattle.queue.specs.Holds.{Has}
-use Rattle.queue.specs.Steps.{Behind}
-use Rattle.queue.proofs.Splits.{held-in}
-use Rattle.rollback.specs.Mid.{Mid, Comes}
-use Rattle.rollback.specs.Steps.{Removes}
+use Rattle.engine_index.specs.Stands.{cell}
+use Rattle.engine_events.specs.Holds.{Has}
+use Rattle.engine_events.specs.Promises.{Behind}
+use Rattle.engine_events.proofs.Splits.{held-in}
+use Rattle.engine_rollback.specs.Mid.{Mid, RollsTo}
+use Rattle.engine_rollback.specs.Promises.{Removes}
 use Rattle.engine.specs.Represents.{Represents}
 use Rattle.engine.specs.Steps.{atMost, FindsPost}
 use Rattle.engine.specs.Promises.{Becomes, Answered}
@@ -68,7 +68,7 @@ module _ {p : Plan} {e : Engine} {xs : List ℕ} (R : Represents p e xs) (number
         let d = can-remove p (R .range) (e .queue) (waiting R) (invariant R .machine .states) (invariant R .ok) (neat R) (event h) i in
         subst (Does p (Remove (event h)) (e .queue)) (does-agree p (d .1) (neat R) .0) (d .1)
 
-    comes : Comes p (p .count) (e .capacity) (e .now) k (e .queue) ys left (R .cells)
+    comes : RollsTo p (p .count) (e .capacity) (e .now) k (e .queue) ys left (R .cells)
     comes =
         let w = waits-inserted p (R .range) e (posts p 0 (made R)) (retracted (made R)) (logs (made R)) (invariant R) h held s in
         let M : Mid p (p .count) (e .capacity) (e .now) xs (e .queue) (R .cells) (insert (event h) (w .0)) (invariant R .machine .states) =

@@ -14,15 +14,15 @@ use Rattle.line.specs.declared.Effect.{Effect}
 use Rattle.line.specs.declared.Event.{Event}
 use Rattle.line.specs.declared.Ran.{Ran}
 use Rattle.line.specs.declared.Ran.the-variants.{Done, Over}
-use Rattle.line.specs.Answer.{sent}
+use Rattle.line.specs.Answer.{sendsOf}
 use Rattle.line.specs.Station.{Plan}
 use Rattle.rules.specs.Engine.{Engine, RunStation, RunLowest, Answer, Refused}
 use Rattle.rules.specs.Calls.{lowest}
 use Rattle.rings.specs.Table.{nextOf}
-use Rattle.index.specs.Shape.{linksAt, FindsSlot}
-use Rattle.queue.specs.Holds.{fitsIn}
-use Rattle.queue.specs.Steps.{Behind, Runs, Finds}
-use Rattle.queue.proofs.Fitting.{fits-gone}
+use Rattle.engine_index.specs.Shape.{linksAt, FindsSlot}
+use Rattle.engine_events.specs.Holds.{fitsIn}
+use Rattle.engine_events.specs.Promises.{Behind, RunsEvent, Finds}
+use Rattle.engine_events.proofs.Fitting.{fits-gone}
 use Rattle.engine.specs.declared.RunAnswer.{RunAnswer}
 use Rattle.engine.specs.declared.RunAnswer.the-variants as N
 use Rattle.engine.specs.Represents.{Represents}
@@ -72,7 +72,7 @@ module _ {n c s x : ℕ} {xs : List ℕ} {v : Event} {r : Ran} (G : Reads n c s 
   }
 
   module _ (f : Effect) (t : r ≡ Done f) {room : ℕ} (h : HasRoom n c xs room) where
-    pub places-few : room < length (sent (f .first)) + length (sent (f .second)) → RunsAt n c s (N.Refused Full) xs xs
+    pub places-few : room < length (sendsOf (f .first)) + length (sendsOf (f .second)) → RunsAt n c s (N.Refused Full) xs xs
     places-few k = record {
       refusal = λ m q. refl;
       answer = λ p e R a b.
@@ -81,9 +81,9 @@ module _ {n c s x : ℕ} {xs : List ℕ} {v : Event} {r : Ran} (G : Reads n c s 
           full-so R g (some-waits R (g .inside) (g .next) (g .above)) f t h′ k;
     }
 
-    pub run-done : length (sent (f .first)) + length (sent (f .second)) ≤ room → ((j : ℕ) → getD xs j 0 < 256)
+    pub run-done : length (sendsOf (f .first)) + length (sendsOf (f .second)) ≤ room → ((j : ℕ) → getD xs j 0 < 256)
         → (n1 k1 n2 k2 : ℕ) (ys zs us : List ℕ) → AddsSend n c xs (f .first) n1 k1 ys → AddsSend n c ys (f .second) n2 k2 zs
-        → Runs n c zs x (f .state) n1 n2 us → Behind xs us → RunsAt n c s (N.Done s (k1 + k2)) xs us
+        → RunsEvent n c zs x (f .state) n1 n2 us → Behind xs us → RunsAt n c s (N.Done s (k1 + k2)) xs us
     run-done k low n1 k1 n2 k2 ys zs us D E T F = record {
       refusal = λ m q. let z : _≡_ {A = ℕ} 0 1 = cc in absurd (omega arith);
       answer = λ p e R a b.
@@ -91,7 +91,7 @@ module _ {n c s x : ℕ} {xs : List ℕ} {v : Event} {r : Ran} (G : Reads n c s 
           let h′ : HasRoom (p .count) (e .capacity) xs room = rw (a, b) h in
           let D′ : AddsSend (p .count) (e .capacity) xs (f .first) n1 k1 ys = rw (a, b) D in
           let E′ : AddsSend (p .count) (e .capacity) ys (f .second) n2 k2 zs = rw (a, b) E in
-          let T′ : Runs (p .count) (e .capacity) zs x (f .state) n1 n2 us = rw (a, b) T in
+          let T′ : RunsEvent (p .count) (e .capacity) zs x (f .state) n1 n2 us = rw (a, b) T in
           run-so R g (some-waits R (g .inside) (g .next) (g .above)) f t h′ k low n1 k1 n2 k2 ys zs us D′ E′ T′ F;
     }
 

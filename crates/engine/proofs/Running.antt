@@ -14,7 +14,7 @@ use Rattle.line.specs.declared.Event.{Event}
 use Rattle.line.specs.declared.Ran.{Ran}
 use Rattle.line.specs.declared.Ran.the-variants.{Done, Over}
 use Rattle.line.specs.declared.State.{State}
-use Rattle.line.specs.Answer.{countsPass, counted, sent, said}
+use Rattle.line.specs.Answer.{countsPass, counted, sendsOf, said}
 use Rattle.line.specs.Station.{Plan, Outcome, update, runAt, runEvent}
 use Rattle.line.proofs.Order.{Lt, asym}
 use Rattle.line.proofs.All.{All}
@@ -39,14 +39,14 @@ use Rattle.rules.proofs.Invariant.{sends-new}
 use Rattle.rules.proofs.Step.{run-inside, run-good, can-run, run-queue}
 use Rattle.rules.proofs.Answered.{first-of}
 use Rattle.rings.specs.Table.{nextOf}
-use Rattle.store.specs.Layout.{stationRow, slotRow}
-use Rattle.store.specs.Records.{EventFits, StateFits, eventAt, stateAt, configAt}
-use Rattle.store.proofs.Fits.{event-fits, state-fits}
-use Rattle.index.specs.Shape.{linksAt, slotOf, IsSlot, FindsSlot}
-use Rattle.index.specs.Stands.{cell}
-use Rattle.queue.specs.Holds.{nonzero, Nodes, none}
-use Rattle.queue.specs.Steps.{Behind, Runs, Becomes}
-use Rattle.rollback.proofs.Cells.{held-length}
+use Rattle.engine_rows.specs.Layout.{stationRow, slotRow}
+use Rattle.engine_rows.specs.Records.{EventFits, StateFits, eventAt, stateAt, storedConfig}
+use Rattle.engine_rows.proofs.Fits.{event-fits, state-fits}
+use Rattle.engine_index.specs.Shape.{linksAt, slotOf, IsSlot, FindsSlot}
+use Rattle.engine_index.specs.Stands.{cell}
+use Rattle.engine_events.specs.Holds.{nonzero, Nodes, none}
+use Rattle.engine_events.specs.Promises.{Behind, RunsEvent, Becomes}
+use Rattle.engine_rollback.proofs.Cells.{held-length}
 use Rattle.engine.specs.Represents.{Represents}
 use Rattle.engine.specs.Promises as P
 use Rattle.engine.specs.Steps.{HasRoom, AddsSend}
@@ -66,10 +66,10 @@ pub record Reads (n c s x : ℕ) (xs : List ℕ) (v : Event) (r : Ran) : Type 0 
   pub next : x ≡ nextOf xs (linksAt n c) s
   pub above : 2 * n < x
   pub event : v ≡ eventAt (slotRow n (slotOf n x)) xs
-  pub outcome : said r ≡ counted (runAt (configAt (stationRow n s) xs) (stateAt (stationRow n s + 32) xs) v)
+  pub outcome : said r ≡ counted (runAt (storedConfig (stationRow n s) xs) (stateAt (stationRow n s + 32) xs) v)
 
 pub reads-of : {n c s x i : ℕ} {xs : List ℕ} {v : Event} {r : Ran} {g : Config} {b : State} → s < n → x ≡ nextOf xs (linksAt n c) s
-    → FindsSlot n c (length xs) x i → i < c → v ≡ eventAt (slotRow n i) xs → g ≡ configAt (stationRow n s) xs → b ≡ stateAt (stationRow n s + 32) xs
+    → FindsSlot n c (length xs) x i → i < c → v ≡ eventAt (slotRow n i) xs → g ≡ storedConfig (stationRow n s) xs → b ≡ stateAt (stationRow n s + 32) xs
     → said r ≡ counted (runAt g b v) → Reads n c s x xs v r
 reads-of {xs = xs} l i F h j k m o = record { inside = l; next = i; above = F .sound h .0 .above; event = slot-event F xs h j; outcome = rw (k, m) at o }
 
@@ -120,11 +120,11 @@ module _ {p : Plan} {e : Engine} {xs : List ℕ} (R : Represents p e xs) {s x : 
     is-within : (countsPass (o .after) ≡ false) × (o ≡ outcomeOf f)
     is-within = within-is o (outcomeOf f) (ap said (sym t) ∙ outcome-is)
 
-    sends-are : o .sends ≡ sent (f .first) ++ sent (f .second)
+    sends-are : o .sends ≡ sendsOf (f .first) ++ sendsOf (f .second)
     sends-are = ap (λ (y : Outcome). y .sends) (is-within .1)
 
-    number-of : length (o .sends) ≡ length (sent (f .first)) + length (sent (f .second))
-    number-of = ap length sends-are ∙ length-append (sent (f .first)) (sent (f .second))
+    number-of : length (o .sends) ≡ length (sendsOf (f .first)) + length (sendsOf (f .second))
+    number-of = ap length sends-are ∙ length-append (sendsOf (f .first)) (sendsOf (f .second))
 
     held-are : length (e .queue .held) ≡ length (R .cells)
     held-are = sym (ap length (R .holds .stores .held)) ∙ held-length (R .cells)
@@ -134,7 +134,7 @@ module _ {p : Plan} {e : Engine} {xs : List ℕ} (R : Represents p e xs) {s x : 
     room-says room h =
         h p (e .now) (e .queue) (R .cells) (R .holds) (length (o .sends)) (omega (arith, number-of, sends-few (f .first), sends-few (f .second)))
 
-    pub full-so : {room : ℕ} → HasRoom (p .count) (e .capacity) xs room → room < length (sent (f .first)) + length (sent (f .second))
+    pub full-so : {room : ℕ} → HasRoom (p .count) (e .capacity) xs room → room < length (sendsOf (f .first)) + length (sendsOf (f .second))
         → P.Becomes p e (RunStation s) (Refused 17) xs
     full-so {room} h k =
         let z : leb (length (R .cells) + length (o .sends)) (e .capacity) ≡ false =
@@ -145,7 +145,7 @@ module _ {p : Plan} {e : Engine} {xs : List ℕ} (R : Represents p e xs) {s x : 
 
     -- ---- the sends are added and the event is run
 
-    module _ {room : ℕ} (h : HasRoom (p .count) (e .capacity) xs room) (k : length (sent (f .first)) + length (sent (f .second)) ≤ room)
+    module _ {room : ℕ} (h : HasRoom (p .count) (e .capacity) xs room) (k : length (sendsOf (f .first)) + length (sendsOf (f .second)) ≤ room)
         (low : (j : ℕ) → getD xs j 0 < 256) where
       room-for : length (R .cells) + length (o .sends) ≤ e .capacity
       room-for =
@@ -215,17 +215,17 @@ module _ {p : Plan} {e : Engine} {xs : List ℕ} (R : Represents p e xs) {s x : 
       }
 
       module _ (n1 k1 n2 k2 : ℕ) (ys zs us : List ℕ) (D : AddsSend (p .count) (e .capacity) xs (f .first) n1 k1 ys)
-          (E : AddsSend (p .count) (e .capacity) ys (f .second) n2 k2 zs) (T : Runs (p .count) (e .capacity) zs x (f .state) n1 n2 us) (F : Behind xs us) where
+          (E : AddsSend (p .count) (e .capacity) ys (f .second) n2 k2 zs) (T : RunsEvent (p .count) (e .capacity) zs x (f .state) n1 n2 us) (F : Behind xs us) where
         abbrev At : List ℕ → ℕ → List ℕ → List Event → List Event → Type 0
         At = Stage p (p .count) (e .capacity) (e .now) (e .queue) (addAll p (o .sends) (e .queue)) x w
 
-        one : At ys k1 (nonzero n1) (sent (f .first)) (sent (f .second))
+        one : At ys k1 (nonzero n1) (sendsOf (f .first)) (sendsOf (f .second))
         one =
             let i : 0 + k1 ≡ k1 = omega arith in
             rw i at (send-more (f .first) n1 k1 (subst (λ ws. At xs 0 [] [] ws) sends-are start) D)
 
-        two : At zs (k1 + k2) (nonzero n1 ++ nonzero n2) (sent (f .first) ++ sent (f .second)) []
-        two = send-more (f .second) n2 k2 (subst (λ ws. At ys k1 (nonzero n1) (sent (f .first)) ws) (sym (append-nil (sent (f .second)))) one) E
+        two : At zs (k1 + k2) (nonzero n1 ++ nonzero n2) (sendsOf (f .first) ++ sendsOf (f .second)) []
+        two = send-more (f .second) n2 k2 (subst (λ ws. At ys k1 (nonzero n1) (sendsOf (f .first)) ws) (sym (append-nil (sendsOf (f .second)))) one) E
 
         made-of : Queue → State → State → Queue
         made-of u a c = record { states = update (u .states) (w .target) a; held = mark (w .target) c (u .held) }

@@ -10,7 +10,7 @@ use Rattle.refusal.specs.Tests.{horizon}
 use Rattle.line.specs.declared.Event.{Event}
 use Rattle.line.specs.declared.Sending.{Sending}
 use Rattle.line.specs.declared.Sending.the-variants.{Nothing, Sends}
-use Rattle.line.specs.Answer.{sent}
+use Rattle.line.specs.Answer.{sendsOf}
 use Rattle.line.specs.Event.{before}
 use Rattle.line.specs.Station.{Plan, States}
 use Rattle.line.proofs.Order.{Lt, Differ, differ-sym}
@@ -30,14 +30,14 @@ use Rattle.rules.proofs.Agree as G
 use Rattle.rules.proofs.Agree.{does-agree, still-new}
 use Rattle.rules.proofs.Exist.{IsHeld, is-unrun, is-run, can-add, waiting-held}
 use Rattle.rules.proofs.Room.{does-length}
-use Rattle.store.specs.Records.{EventFits}
-use Rattle.index.specs.Stands.{Cell, cell}
-use Rattle.queue.specs.Holds.{heldOf, Has, nonzero, Nodes}
-use Rattle.queue.specs.Steps.{New, Becomes}
-use Rattle.queue.proofs.Members.{member}
-use Rattle.rollback.specs.Mid.{Mid, Comes}
-use Rattle.rollback.specs.Steps.{Adds}
-use Rattle.rollback.proofs.Cells.{held-length}
+use Rattle.engine_rows.specs.Records.{EventFits}
+use Rattle.engine_index.specs.Stands.{Cell, cell}
+use Rattle.engine_events.specs.Holds.{heldOf, Has, nonzero, Nodes}
+use Rattle.engine_events.specs.Promises.{New, Becomes}
+use Rattle.engine_events.proofs.Members.{member}
+use Rattle.engine_rollback.specs.Mid.{Mid, RollsTo}
+use Rattle.engine_rollback.specs.Promises.{Adds}
+use Rattle.engine_rollback.proofs.Cells.{held-length}
 use Rattle.engine.specs.Steps.{AddsSend}
 use Rattle.engine.proofs.SentNodes.{added-node, kept-node, nodes-kept, nodes-snoc}
 
@@ -120,7 +120,7 @@ module _ {p : Plan} {n c now : ℕ} {q u : Queue} {x : ℕ} {e : Event} {xs : Li
   new : New y (s .left .held)
   new = as-new y (s .left .held) (R .new)
 
-  comes : Comes p n c now j (s .left) ys after (cell node (unrun y) ∷ s .cells)
+  comes : RollsTo p n c now j (s .left) ys after (cell node (unrun y) ∷ s .cells)
   unfolding after
   comes =
       D p now (s .left) (s .cells) (s .waiting) (s .states) (s .mid) (omega (arith, s .room)) (R .fits) (omega (arith, R .inside, s .mid .holds .stores .count))
@@ -199,8 +199,8 @@ module _ {p : Plan} {n c now : ℕ} {q u : Queue} {x : ℕ} {e : Event} {xs : Li
 
 -- a place for a send is added, empty or not
 pub send-more : {p : Plan} {n c now : ℕ} {q u : Queue} {x : ℕ} {e : Event} {xs : List ℕ} {k : ℕ} {ks : List ℕ} {es : List Event} (a : Sending) {rs : List Event}
-    (node j : ℕ) {ys : List ℕ} → Stage p n c now q u x e xs k ks es (sent a ++ rs) → AddsSend n c xs a node j ys
-    → Stage p n c now q u x e ys (k + j) (ks ++ nonzero node) (es ++ sent a) rs
+    (node j : ℕ) {ys : List ℕ} → Stage p n c now q u x e xs k ks es (sendsOf a ++ rs) → AddsSend n c xs a node j ys
+    → Stage p n c now q u x e ys (k + j) (ks ++ nonzero node) (es ++ sendsOf a) rs
 send-more {p} {n} {c} {now} {q} {u} {x} {e} {xs} {k} {ks} {es} Nothing {rs} node j {ys} s D =
     let i : k + j ≡ k = omega (arith, D .1) in
     rw (D .2, D .0, i, append-nil ks, append-nil es) s

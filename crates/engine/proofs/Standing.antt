@@ -10,7 +10,7 @@ use Rattle.rules.specs.Demand.{Made, Calls, end, next, posts, retracted, logs}
 use Rattle.rules.proofs.Invariant.{Inv, held-neat}
 use Rattle.rules.proofs.Neat.{Neat}
 use Rattle.rules.proofs.Whole.{after-calls}
-use Rattle.rollback.specs.Mid.{Mid}
+use Rattle.engine_rollback.specs.Mid.{Mid}
 use Rattle.engine.specs.Represents.{Reached, Represents}
 
 module _ {p : Plan} {e : Engine} {xs : List ℕ} (r : Represents p e xs) where

@@ -6,7 +6,7 @@ use Prim.Native.Nat.{ℕ}
 use lib.ListN.{length}
 use Rattle.words.specs.Le.{loadAt}
 use Rattle.rules.specs.Engine.{Call, Answer}
-use Rattle.queue.specs.Holds.{fitsIn}
+use Rattle.engine_events.specs.Holds.{fitsIn}
 use Rattle.engine.specs.Promises.{Answered}
 use Rattle.engine.specs.Steps.{atMost}
 use Rattle.engine.proofs.Header.{unfit}

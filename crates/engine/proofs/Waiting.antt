@@ -15,10 +15,10 @@ use Rattle.rules.specs.Held.{Held, event, Queue, unrun, ran, Lowest, noneUnrun,
 use Rattle.rules.proofs.Replay.{Above, Sorted}
 use Rattle.rules.proofs.Commit.{Early, early, late, isEarly}
 use Rattle.rules.proofs.Tests.{none-early, some-early}
-use Rattle.index.specs.Stands.{Cell, AllBehind}
-use Rattle.index.specs.Stands.{Sorted as InOrder}
-use Rattle.queue.specs.Holds.{heldOf, Holds}
-use Rattle.queue.specs.Steps.{Finds}
+use Rattle.engine_index.specs.Stands.{Cell, AllBehind}
+use Rattle.engine_index.specs.Stands.{Sorted as InOrder}
+use Rattle.engine_events.specs.Holds.{heldOf, Holds}
+use Rattle.engine_events.specs.Promises.{Finds}
 use Rattle.engine.specs.Steps as S
 
 none-before : (time : ℕ) (h : List Held) → noneUnrun h ≡ true → unrunBefore time h ≡ false

@@ -12,15 +12,15 @@ use Rattle.rules.specs.Held.{Held, unrun, ran, event, Queue}
 use Rattle.rules.specs.Entry.{entry, entries}
 use Rattle.rules.proofs.Entries.{entries-length, entries-append, entries-first}
 use Rattle.rings.specs.Table.{nextOf}
-use Rattle.store.specs.Layout.{slotRow}
-use Rattle.store.specs.Records.{eventAt, putEvent, entryOf}
-use Rattle.store.proofs.Entry.{event-parts}
-use Rattle.index.specs.Shape.{slotOf, logAt, IsSlot}
-use Rattle.index.specs.Stands.{Cell, cell, hasRun, Stands}
-use Rattle.index.proofs.Ends.{first-logged}
-use Rattle.queue.specs.Holds.{heldOf, Holds}
-use Rattle.queue.specs.Steps.{Releases}
-use Rattle.queue.proofs.Splits.{middle-in}
+use Rattle.engine_rows.specs.Layout.{slotRow}
+use Rattle.engine_rows.specs.Records.{eventAt, putEvent, entryOf}
+use Rattle.engine_rows.proofs.Entry.{event-parts}
+use Rattle.engine_index.specs.Shape.{slotOf, logAt, IsSlot}
+use Rattle.engine_index.specs.Stands.{Cell, cell, hasRun, Stands}
+use Rattle.engine_index.proofs.Ends.{first-logged}
+use Rattle.engine_events.specs.Holds.{heldOf, Holds}
+use Rattle.engine_events.specs.Promises.{ReleasesEvent}
+use Rattle.engine_events.proofs.Splits.{middle-in}
 use Rattle.engine.specs.Steps.{eventsOf, AllRun, Writes}
 use Rattle.engine.proofs.FoundSlots.{cell-slot}
 use Rattle.engine.proofs.Fronts.{run-at, length-events}
@@ -104,7 +104,7 @@ module _ (n c : ℕ) (xs : List ℕ) (count : ℕ) (output : List ℕ) where
   -- the first cell's event is read, and the others are left
   step : (p : Plan) (now : ℕ) (q : Queue) (z : ℕ) (h : Held) (cells : List Cell) (ys zs : List ℕ) (x : ℕ) (e : Event) → hasRun h ≡ true → InRange p
       → Holds p n c now ys (record { states = q .states; held = h ∷ heldOf cells }) (cell z h ∷ cells)
-      → (n ≤ 256 → c ≤ 4096 → x ≡ nextOf ys (logAt n c) 0) → e ≡ eventAt (slotRow n (slotOf n x)) ys → Releases n c ys x zs
+      → (n ≤ 256 → c ≤ 4096 → x ≡ nextOf ys (logAt n c) 0) → e ≡ eventAt (slotRow n (slotOf n x)) ys → ReleasesEvent n c ys x zs
       → (e ≡ event h) × Holds p n c now zs (record { states = q .states; held = heldOf cells }) cells
   step p now q z (unrun v) cells ys zs x e t I H f g R = absurd (true≢false (sym t))
   step p now q z (ran v b) cells ys zs x e t I H f g R =
@@ -116,7 +116,7 @@ module _ (n c : ℕ) (xs : List ℕ) (count : ℕ) (output : List ℕ) where
 
   module _ {k : ℕ} {ys left : List ℕ} (W : Writing n c xs count output k ys left) where
     pub writing-on : {x : ℕ} {e : Event} {zs left′ : List ℕ} → k < count → (n ≤ 256 → c ≤ 4096 → x ≡ nextOf ys (logAt n c) 0)
-        → e ≡ eventAt (slotRow n (slotOf n x)) ys → left′ ≡ putEvent (24 * k) e left → Releases n c ys x zs
+        → e ≡ eventAt (slotRow n (slotOf n x)) ys → left′ ≡ putEvent (24 * k) e left → ReleasesEvent n c ys x zs
         → Writing n c xs count output (k + 1) zs left′
     writing-on {x} {e} {zs} {left′} h f g o R p now q front back I H r l w =
         let d = W p now q front back I H r l w in

@@ -15,11 +15,11 @@ use Rattle.rules.specs.Held.{Held, event, Queue, Found, heldPost, unrunBefore, 
 use Rattle.rules.specs.Engine.{Engine, RunStation, Refused}
 use Rattle.rules.specs.Entry.{entries}
 use Rattle.words.specs.Le.{loadAt}
-use Rattle.store.specs.Layout.{stationRow, slotRow}
-use Rattle.store.specs.Records.{eventAt, stateAt, configAt}
-use Rattle.index.specs.Stands.{Cell, cell, hasRun}
-use Rattle.queue.specs.Holds.{heldOf, Has, Holds}
-use Rattle.rollback.specs.Steps.{Adds}
+use Rattle.engine_rows.specs.Layout.{stationRow, slotRow}
+use Rattle.engine_rows.specs.Records.{eventAt, stateAt, storedConfig}
+use Rattle.engine_index.specs.Stands.{Cell, cell, hasRun}
+use Rattle.engine_events.specs.Holds.{heldOf, Has, Holds}
+use Rattle.engine_rollback.specs.Promises.{Adds}
 use Rattle.engine.specs.declared.RunAnswer.{RunAnswer}
 use Rattle.engine.specs.Represents.{lineOf, Represents}
 use Rattle.engine.specs.Said.{runSaid}
@@ -36,7 +36,7 @@ atMost m w = cond (ltb m w) (suc m) w
 -- stations 0 to n - 1 have the plan's numbers and their first states
 pub record Begun (plan : List ℕ) (n : ℕ) (xs ys : List ℕ) : Type 0 where
   pub size : length ys ≡ length xs
-  pub configs : slotRow n 0 ≤ length xs → (s : ℕ) → s < n → configAt (stationRow n s) ys ≡ lineOf plan .config s
+  pub configs : slotRow n 0 ≤ length xs → (s : ℕ) → s < n → storedConfig (stationRow n s) ys ≡ lineOf plan .config s
   pub states : slotRow n 0 ≤ length xs → (s : ℕ) → s < n → stateAt (stationRow n s + 32) ys ≡ initial (lineOf plan) s
 
 -- ---- post

@@ -45,26 +45,26 @@ recordCode (D.Refused e) = numberOf e
 
 -- ---- the values
 
-abbrev pub opened : OpenAnswer → List ℕ → List ℕ
-opened O.Done old = old
-opened (O.Refused e) old = firstOr (stationsOf e) old
+abbrev pub openValues : OpenAnswer → List ℕ → List ℕ
+openValues O.Done old = old
+openValues (O.Refused e) old = firstOr (stationsOf e) old
 
-abbrev pub posted : PostAnswer → List ℕ → List ℕ
-posted (P.Done number undone) old = set (set old 0 number) 1 undone
-posted (P.Refused e) old = old
+abbrev pub postValues : PostAnswer → List ℕ → List ℕ
+postValues (P.Done number undone) old = set (set old 0 number) 1 undone
+postValues (P.Refused e) old = old
 
-abbrev pub retracted : RetractAnswer → List ℕ → List ℕ
-retracted (T.Done undone) old = set old 0 undone
-retracted (T.Refused e) old = old
+abbrev pub retractValues : RetractAnswer → List ℕ → List ℕ
+retractValues (T.Done undone) old = set old 0 undone
+retractValues (T.Refused e) old = old
 
-abbrev pub ran : RunAnswer → List ℕ → List ℕ
-ran (R.Done station undone) old = set (set old 0 station) 1 undone
-ran (R.Refused e) old = old
+abbrev pub runValues : RunAnswer → List ℕ → List ℕ
+runValues (R.Done station undone) old = set (set old 0 station) 1 undone
+runValues (R.Refused e) old = old
 
-abbrev pub committed : CommitAnswer → List ℕ → List ℕ
-committed (C.Done count) old = set old 0 count
-committed (C.Refused e) old = old
+abbrev pub commitValues : CommitAnswer → List ℕ → List ℕ
+commitValues (C.Done count) old = set old 0 count
+commitValues (C.Refused e) old = old
 
-abbrev pub recorded : RecordAnswer → List ℕ → List ℕ
-recorded (D.Done s) old = set (set (set (set (set old 0 (s .draw)) 1 (s .level)) 2 (s .heard)) 3 (s .lost)) 4 (s .sent)
-recorded (D.Refused e) old = old
+abbrev pub recordValues : RecordAnswer → List ℕ → List ℕ
+recordValues (D.Done s) old = set (set (set (set (set old 0 (s .draw)) 1 (s .level)) 2 (s .heard)) 3 (s .lost)) 4 (s .sent)
+recordValues (D.Refused e) old = old

@@ -28,16 +28,16 @@ nameCode (N.Refused e) = numberOf e
 -- ---- the values
 
 -- how many stations
-abbrev pub counted : ReadAnswer → List ℕ → List ℕ
-counted (R.Stations n) old = set old 0 n
-counted (R.Refused e) old = firstOr (stationsOf e) old
+abbrev pub readValues : ReadAnswer → List ℕ → List ℕ
+readValues (R.Stations n) old = set old 0 n
+readValues (R.Refused e) old = firstOr (stationsOf e) old
 
 -- how many bytes
-abbrev pub measured : WriteAnswer → List ℕ → List ℕ
-measured (W.Length n) old = set old 0 n
-measured (W.Refused e) old = firstOr (stationsOf e) old
+abbrev pub writeValues : WriteAnswer → List ℕ → List ℕ
+writeValues (W.Length n) old = set old 0 n
+writeValues (W.Refused e) old = firstOr (stationsOf e) old
 
 -- the name's first byte, and its length
-abbrev pub placed : NameAnswer → List ℕ → List ℕ
-placed (N.Part first len) old = set (set old 0 first) 1 len
-placed (N.Refused e) old = firstOr (stationsOf e) old
+abbrev pub nameValues : NameAnswer → List ℕ → List ℕ
+nameValues (N.Part first len) old = set (set old 0 first) 1 len
+nameValues (N.Refused e) old = firstOr (stationsOf e) old

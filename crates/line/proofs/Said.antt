@@ -17,7 +17,7 @@ use Rattle.line.specs.declared.Effect.{Effect}
 use Rattle.line.specs.declared.Ran.{Ran}
 use Rattle.line.specs.declared.Ran.the-variants.{Done}
 use Rattle.line.specs.Station.{Outcome, silent, send, pass}
-use Rattle.line.specs.Answer.{countsPass, Counted, within, over, counted, sent, said}
+use Rattle.line.specs.Answer.{countsPass, Counted, within, over, counted, sendsOf, said}
 use Rattle.line.proofs.Sends.{made}
 
 -- the counts of a state fit 32 bits, or one of them passes
@@ -61,8 +61,8 @@ ahead l over = over
 abbrev pub One : Ran → Outcome → Type 0
 One r o = (said r ≡ counted o) × ((e : Effect) → r ≡ Done e → e .second ≡ Nothing)
 
-pub single : (r : Ran) (o : Outcome) → One r o → (e : Effect) → r ≡ Done e → within (record { after = e .state; sends = sent (e .first) }) ≡ counted o
-single r o p e h = ap (λ l. within (record { after = e .state; sends = l })) (sym (append-nil _) ∙ ap (λ x. sent (e .first) ++ sent x) (sym (p .1 e h))) ∙ (ap said (sym h) ∙ p .0)
+pub single : (r : Ran) (o : Outcome) → One r o → (e : Effect) → r ≡ Done e → within (record { after = e .state; sends = sendsOf (e .first) }) ≡ counted o
+single r o p e h = ap (λ l. within (record { after = e .state; sends = l })) (sym (append-nil _) ∙ ap (λ x. sendsOf (e .first) ++ sendsOf x) (sym (p .1 e h))) ∙ (ap said (sym h) ∙ p .0)
 
 module _ (s u to : ℕ) (m : Matter) where
   -- after the horizon it is not made, up to the horizon it is, and a count that passed stays so
@@ -95,7 +95,7 @@ module _ (s u to : ℕ) (m : Matter) where
       go true = two (countsPass (made s u to m o .after)) _ _ refl
       go false = two (countsPass (o .after)) _ _ (ap (λ l. within (record { after = o .after; sends = l })) (append-nil (o .sends)))
 
-  pub chain : (r : Ran) (o : Outcome) → One r o → (e : Effect) → r ≡ Done e → counted (send s u to m o) ≡ ahead (sent (e .first)) (counted (send s u to m (silent (e .state))))
+  pub chain : (r : Ran) (o : Outcome) → One r o → (e : Effect) → r ≡ Done e → counted (send s u to m o) ≡ ahead (sendsOf (e .first)) (counted (send s u to m (silent (e .state))))
   chain r o p e h = rw (whole o _ (single r o p e h)) (onto _)
 
 -- the same where a frame may be passed on

@@ -22,11 +22,11 @@ pub data Counted : Type 0 where
 unfoldable pub counted : Outcome → Counted
 counted o = cond (countsPass (o .after)) over (within o)
 
-abbrev pub sent : Sending → List Event
-sent Nothing = []
-sent (Sends x) = x ∷ []
+abbrev pub sendsOf : Sending → List Event
+sendsOf Nothing = []
+sendsOf (Sends x) = x ∷ []
 
 -- what the code's answer says
 abbrev pub said : Ran → Counted
-said (Done e) = within (record { after = e .state; sends = sent (e .first) ++ sent (e .second) })
+said (Done e) = within (record { after = e .state; sends = sendsOf (e .first) ++ sendsOf (e .second) })
 said Over = over

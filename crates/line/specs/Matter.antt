@@ -10,15 +10,15 @@ use Rattle.line.specs.declared.Meant.{Meant}
 use Rattle.line.specs.declared.Meant.the-variants.{Means, Refused}
 
 -- 10: "the kind isn't 1 to 3, or its value doesn't suit it (a level's is at most 4294967295)"
-abbrev pub unless : Bool → Matter → Meant
-unless suits m = cond suits (Means m) (Refused R.Matter)
+abbrev pub suited : Bool → Matter → Meant
+suited suits m = cond suits (Means m) (Refused R.Matter)
 
 -- "a reading (kind 1, value 0), a frame with its origin (2, value an origin below N) or a level (3, value in mm)"
 unfoldable pub matterOf : ℕ → ℕ → ℕ → Meant
 matterOf n kind value =
-    cond (eqb kind 1) (unless (eqb value 0) Read)
-    (cond (eqb kind 2) (unless (ltb value n) (Frame value))
-    (cond (eqb kind 3) (unless (leb value largest) (Level value)) (Refused R.Matter)))
+    cond (eqb kind 1) (suited (eqb value 0) Read)
+    (cond (eqb kind 2) (suited (ltb value n) (Frame value))
+    (cond (eqb kind 3) (suited (leb value largest) (Level value)) (Refused R.Matter)))
 
 abbrev pub kindOf : Matter → ℕ
 kindOf Read = 1

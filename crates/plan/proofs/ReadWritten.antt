@@ -14,7 +14,7 @@ use Rattle.plan.specs.declared.Station.{Station}
 use Rattle.plan.specs.declared.ReadAnswer.the-variants.{Stations}
 use Rattle.plan.specs.Plan.{count, offsetOf, lengthOf, begins, configAt, stationAt, stationsFrom, nameOut}
 use Rattle.plan.specs.Reading.{judging}
-use Rattle.plan.specs.Writing.{sizeOf, recordOf, pairsOf, recordsOf, planOf, noStation, fieldOut, wordOut, cleared}
+use Rattle.plan.specs.Writing.{sizeOf, recordBytes, pairsOf, recordsOf, planOf, noStation, fieldOut, wordOut, cleared}
 use Rattle.plan.proofs.Names.{name-short}
 use Rattle.plan.proofs.Accepted.{accepts}
 use Rattle.plan.proofs.Pairs.{PairRight}
@@ -51,16 +51,16 @@ module _ (s : Station) (z : Sized s) (short : s .len ≤ 16) where
   unfolding nameOut cleared
   name-cleared = rw (take-at (take (s .len) (s .name)) (replicate (16 - s .len) 0) (s .len) name-length)
 
-  record-length : length (recordOf s) ≡ sizeOf s
-  unfolding recordOf
+  record-length : length (recordBytes s) ≡ sizeOf s
+  unfolding recordBytes
   record-length = simp (length-append, length-bytes, name-length) (omega arith)
 
   -- ---- the record at a place
 
-  module _ (p rest : List ℕ) (at : ℕ) (here : drop at p ≡ recordOf s ++ rest) where
+  module _ (p rest : List ℕ) (at : ℕ) (here : drop at p ≡ recordBytes s ++ rest) where
     -- its numbers, and the place of its name
     numbers-read : (configAt p at ≡ s .config) × (drop (at + 26) p ≡ take (s .len) (s .name) ++ rest)
-    unfolding recordOf configAt
+    unfolding recordBytes configAt
     numbers-read =
         let a = load-found 2 at (at + 2) (s .config .parent) p _ (lit< tt) refl (z .parent) (simp append-assoc at here) in
         let b = load-found 4 (at + 2) (at + 6) (s .config .calm) p _ (lit< tt) (omega arith) (z .calm) (a .1) in
@@ -81,7 +81,7 @@ module _ (s : Station) (z : Sized s) (short : s .len ≤ 16) where
     behind : (drop (at + sizeOf s) p ≡ rest) × (at + sizeOf s ≤ length p)
     behind =
         let l : length p - at ≡ sizeOf s + length rest = sym (length-drop at p) ∙ ap length here ∙ simp (length-append, record-length) in
-        (sym (drop-drop (sizeOf s) at p) ∙ ap (drop (sizeOf s)) here ∙ drop-at (recordOf s) rest (sizeOf s) record-length, omega arith)
+        (sym (drop-drop (sizeOf s) at p) ∙ ap (drop (sizeOf s)) here ∙ drop-at (recordBytes s) rest (sizeOf s) record-length, omega arith)
 
 -- ---- the stations, one by one
 

@@ -10,8 +10,8 @@ use lib.Seq.{sets, length-sets}
 use Rattle.words.specs.Le.{bytesOf}
 use Rattle.plan.specs.declared.Station.{Station}
 use Rattle.plan.specs.declared.writer.Pen.{Pen}
-use Rattle.plan.specs.Writing.{noStation, sizeOf, recordOf}
-use Rattle.plan.specs.WriteSteps.{Draft, ready, roomy, moved, headed, placed, stepped, drafted}
+use Rattle.plan.specs.Writing.{noStation, sizeOf, recordBytes}
+use Rattle.plan.specs.Steps.{Draft, ready, roomy, moved, headed, placed, stepped, drafted}
 
 pub drafted-zero : (ss : List Station) (d : Draft) → drafted ss 0 d ≡ d
 unfolding drafted
@@ -31,7 +31,7 @@ length-headed p out = go (eqb (p .k) 0)
 length-placed : (s : Station) (p : Pen) (out : List ℕ) → length (placed s p out) ≡ length out
 unfolding placed
 length-placed s p out =
-    length-sets (sets (headed p out) (2 + 8 * p .k) (bytesOf 4 (p .at) ++ bytesOf 4 (sizeOf s))) (p .at) (recordOf s)
+    length-sets (sets (headed p out) (2 + 8 * p .k) (bytesOf 4 (p .at) ++ bytesOf 4 (sizeOf s))) (p .at) (recordBytes s)
     ∙ length-sets (headed p out) (2 + 8 * p .k) (bytesOf 4 (p .at) ++ bytesOf 4 (sizeOf s))
     ∙ length-headed p out
 

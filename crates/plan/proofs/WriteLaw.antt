@@ -16,7 +16,7 @@ use Rattle.plan.specs.declared.writer.Pen.{Pen}
 use Rattle.plan.specs.Lowest.{lowest}
 use Rattle.plan.specs.Reading.{any}
 use Rattle.plan.specs.Writing.{planOf, chosen, writing, left, noStation, fieldOut, wordOut}
-use Rattle.plan.specs.WriteSteps.{Draft, drafted, NameSized, penOf, wanted, answered, writes}
+use Rattle.plan.specs.Steps.{Draft, drafted, NameSized, penOf, wanted, answered, writes}
 use Rattle.line.proofs.Fits.{or-false}
 use Rattle.plan.proofs.Lows.{lowest-full, lowest-none}
 use Rattle.plan.proofs.Names.{name-short}

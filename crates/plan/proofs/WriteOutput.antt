@@ -12,8 +12,8 @@ use lib.Seq.{sets, sets-eq, take-at, drop-at, drop-append-add, take-suc, take-ad
 use Rattle.words.specs.Le.{bytesOf}
 use Rattle.words.proofs.Laws.{length-bytes}
 use Rattle.plan.specs.declared.Station.{Station}
-use Rattle.plan.specs.Writing.{noStation, sizeOf, recordOf, pairsOf, recordsOf, planOf}
-use Rattle.plan.specs.WriteSteps.{Draft, NameSized, headed, placed, roomy, drafted, penOf}
+use Rattle.plan.specs.Writing.{noStation, sizeOf, recordBytes, pairsOf, recordsOf, planOf}
+use Rattle.plan.specs.Steps.{Draft, NameSized, headed, placed, roomy, drafted, penOf}
 use Rattle.plan.proofs.WriteDraft.{length-drafted}
 use Rattle.plan.proofs.WriteSurvey.{spread, penAt, out-next}
 
@@ -39,10 +39,10 @@ unfolding sizes
 sizes-snoc [] s = omega arith
 sizes-snoc (x ∷ xs) s = let e = sizes-snoc xs s in omega (arith, e)
 
-records-snoc : (xs : List Station) (s : Station) → recordsOf (xs ++ (s ∷ [])) ≡ recordsOf xs ++ recordOf s
+records-snoc : (xs : List Station) (s : Station) → recordsOf (xs ++ (s ∷ [])) ≡ recordsOf xs ++ recordBytes s
 unfolding recordsOf
-records-snoc [] s = append-nil (recordOf s)
-records-snoc (x ∷ xs) s = ap (λ (l : List ℕ). recordOf x ++ l) (records-snoc xs s) ∙ sym (append-assoc (recordOf x) (recordsOf xs) (recordOf s))
+records-snoc [] s = append-nil (recordBytes s)
+records-snoc (x ∷ xs) s = ap (λ (l : List ℕ). recordBytes x ++ l) (records-snoc xs s) ∙ sym (append-assoc (recordBytes x) (recordsOf xs) (recordBytes s))
 
 pairOf : ℕ → Station → List ℕ
 pairOf at s = bytesOf 4 at ++ bytesOf 4 (sizeOf s)
@@ -60,8 +60,8 @@ unfolding pairsOf
 length-pairs at [] = omega arith
 length-pairs at (x ∷ xs) = let e = length-pairs (at + sizeOf x) xs in simp (length-append, length-bytes) (omega (arith, e))
 
-length-record : (s : Station) → s .len ≤ 16 → length (s .name) ≡ 16 → length (recordOf s) ≡ sizeOf s
-unfolding recordOf
+length-record : (s : Station) → s .len ≤ 16 → length (s .name) ≡ 16 → length (recordBytes s) ≡ sizeOf s
+unfolding recordBytes
 length-record s short name = let e : length (take (s .len) (s .name)) ≡ s .len = length-take-le (s .len) (s .name) (omega arith) in simp (length-append, length-bytes, e) (omega arith)
 
 -- ---- the plan's length
@@ -93,7 +93,7 @@ module _ (ss : List Station) (n : ℕ) (held : n ≤ length ss) (short : (i : �
       let e = sizes-are k (omega arith) in
       ap sizes (taken k (omega arith)) ∙ sizes-snoc (take k ss) (station k) ∙ ap (λ (m : ℕ). m + sizeOf (station k)) e ∙ sym (spread-next k (omega arith))
 
-  made-next : (k : ℕ) → k < n → Made (suc k) ≡ Made k ++ recordOf (station k)
+  made-next : (k : ℕ) → k < n → Made (suc k) ≡ Made k ++ recordBytes (station k)
   made-next k l = ap recordsOf (taken k l) ∙ records-snoc (take k ss) (station k)
 
   length-made : (k : ℕ) → k ≤ n → length (Made k) ≡ spread ss k
@@ -102,7 +102,7 @@ module _ (ss : List Station) (n : ℕ) (held : n ≤ length ss) (short : (i : �
   length-made (suc k) l =
       let e = length-made k (omega arith) in
       ap length (made-next k (omega arith))
-      ∙ length-append (Made k) (recordOf (station k))
+      ∙ length-append (Made k) (recordBytes (station k))
       ∙ ap₂ (λ (a b : ℕ). a + b) e (length-record (station k) (short k (omega arith)) (names k (omega arith)))
       ∙ sym (spread-next k (omega arith))
 
@@ -166,7 +166,7 @@ module _ (ss : List Station) (n : ℕ) (held : n ≤ length ss) (short : (i : �
         ∙ ap (λ (ys : List ℕ). take (sizeOf (station k)) (Rest k) ++ ys) (drop-drop (sizeOf (station k)) (base + spread ss k) out ∙ ap (λ (m : ℕ). drop m out) e)
 
     -- station k's pair and record stored
-    stored : (k : ℕ) → k < n → sets (sets (Whole k) (2 + 8 * k) (pairOf (base + spread ss k) (station k))) (base + spread ss k) (recordOf (station k)) ≡ Whole (suc k)
+    stored : (k : ℕ) → k < n → sets (sets (Whole k) (2 + 8 * k) (pairOf (base + spread ss k) (station k))) (base + spread ss k) (recordBytes (station k)) ≡ Whole (suc k)
     unfolding pairOf
     stored k l =
         ap (λ (ys : List ℕ). sets ys (base + spread ss k) rec) (ap (λ (ys : List ℕ). sets (Front k ++ ys) (2 + 8 * k) pair) paired ∙ sets-mid (Front k) old (Gap (suc k) ++ (Made k ++ Rest k)) pair (2 + 8 * k) (length-front k (omega arith)) eight)
@@ -178,7 +178,7 @@ module _ (ss : List Station) (n : ℕ) (held : n ≤ length ss) (short : (i : �
         pair = bytesOf 4 (base + spread ss k) ++ bytesOf 4 (sizeOf (station k))
 
         rec : List ℕ
-        rec = recordOf (station k)
+        rec = recordBytes (station k)
 
         old : List ℕ
         old = take 8 (drop (2 + 8 * k) out)
@@ -247,7 +247,7 @@ module _ (ss : List Station) (n : ℕ) (held : n ≤ length ss) (short : (i : �
     next k l e =
         out-next ss n true out most k l
         ∙ ap (λ (t : Bool). cond t (placed (station k) (penAt ss n true k) (Out k)) (Out k)) (roomy-at k l)
-        ∙ ap (λ (ys : List ℕ). sets (sets ys (2 + 8 * k) (bytesOf 4 (base + spread ss k) ++ bytesOf 4 (sizeOf (station k)))) (base + spread ss k) (recordOf (station k))) e
+        ∙ ap (λ (ys : List ℕ). sets (sets ys (2 + 8 * k) (bytesOf 4 (base + spread ss k) ++ bytesOf 4 (sizeOf (station k)))) (base + spread ss k) (recordBytes (station k))) e
         ∙ stored k l
 
     headed-later : (k : ℕ) (ys : List ℕ) → headed (penAt ss n true (suc k)) ys ≡ ys

@@ -11,7 +11,7 @@ use Rattle.words.proofs.Bytes.{bytes-load}
 use Rattle.plan.specs.declared.ReadAnswer.the-variants.{Stations}
 use Rattle.plan.specs.Plan.{offsetOf, lengthOf, begins, configAt, padded, stationAt, stationsFrom}
 use Rattle.plan.specs.Reading.{judging}
-use Rattle.plan.specs.Writing.{recordOf, pairsOf, recordsOf, planOf}
+use Rattle.plan.specs.Writing.{recordBytes, pairsOf, recordsOf, planOf}
 use Rattle.plan.proofs.Accepted.{Accepted, accepted, begins-first, pairs-within}
 use Rattle.plan.proofs.Pairs.{PairRight}
 
@@ -34,8 +34,8 @@ module _ (p : List ℕ) (bytes : (i : ℕ) → getD p i 0 < 256) where
   four : (i j : ℕ) → i + 4 ≡ j → j ≤ length p → bytesOf 4 (loadAt 4 i p) ++ drop j p ≡ drop i p
   four i j e h = bytes-load 4 i j p bytes e h
 
-  record-written : (k : ℕ) → PairRight p k → recordOf (stationAt p k) ++ drop (offsetOf p k + lengthOf p k) p ≡ drop (offsetOf p k) p
-  unfolding recordOf stationAt configAt
+  record-written : (k : ℕ) → PairRight p k → recordBytes (stationAt p k) ++ drop (offsetOf p k + lengthOf p k) p ≡ drop (offsetOf p k) p
+  unfolding recordBytes stationAt configAt
   record-written k r =
       let at = offsetOf p k in
       let e : at + lengthOf p k ≡ at + 26 + (lengthOf p k - 26) = omega arith in

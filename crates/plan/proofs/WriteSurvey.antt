@@ -11,7 +11,7 @@ use Rattle.plan.specs.declared.Station.{Station}
 use Rattle.plan.specs.declared.writer.Pen.{Pen}
 use Rattle.plan.specs.Lowest.{lowest}
 use Rattle.plan.specs.Writing.{noStation, fieldOut, wordOut}
-use Rattle.plan.specs.WriteSteps.{Draft, counted, ready, roomy, moved, placed, stepped, drafted, penOf}
+use Rattle.plan.specs.Steps.{Draft, counted, ready, roomy, moved, placed, stepped, drafted, penOf}
 use Rattle.plan.proofs.WriteTests.{counted-most}
 
 -- the bytes of the first k records

@@ -8,7 +8,7 @@ use lib.Dec.{ltb, leb}
 use Rattle.plan.specs.declared.Station.{Station}
 use Rattle.plan.specs.declared.writer.Pen.{Pen}
 use Rattle.plan.specs.Writing.{sizeOf}
-use Rattle.plan.specs.WriteSteps.{wanted, counted, ready, roomy}
+use Rattle.plan.specs.Steps.{wanted, counted, ready, roomy}
 
 -- at most 256, and at most what the list has
 pub wanted-fits : (n len : ℕ) → (wanted n len ≤ 256) × (wanted n len ≤ len)

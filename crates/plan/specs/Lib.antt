@@ -3,5 +3,5 @@ pub mod Plan
 pub mod Reading
 pub mod Naming
 pub mod Writing
-pub mod WriteSteps
+pub mod Steps
 pub mod Numbers

@@ -20,8 +20,8 @@ abbrev pub sizeOf : Station → ℕ
 sizeOf s = 26 + s .len
 
 -- a record: its numbers, and the name; "the writer passes over" the bytes behind its length
-unfoldable pub recordOf : Station → List ℕ
-recordOf s =
+unfoldable pub recordBytes : Station → List ℕ
+recordBytes s =
     bytesOf 2 (s .config .parent) ++ (bytesOf 4 (s .config .calm) ++ (bytesOf 4 (s .config .spring) ++ (bytesOf 4 (s .config .threshold)
     ++ (bytesOf 4 (s .config .hop) ++ (bytesOf 4 (s .config .noise) ++ (bytesOf 4 (s .config .seed) ++ take (s .len) (s .name)))))))
 
@@ -32,7 +32,7 @@ pairsOf at (s ∷ ss) = bytesOf 4 at ++ (bytesOf 4 (sizeOf s) ++ pairsOf (at + s
 
 unfoldable pub recordsOf : List Station → List ℕ
 recordsOf [] = []
-recordsOf (s ∷ ss) = recordOf s ++ recordsOf ss
+recordsOf (s ∷ ss) = recordBytes s ++ recordsOf ss
 
 unfoldable pub planOf : List Station → List ℕ
 planOf ss = bytesOf 2 (length ss) ++ (pairsOf (2 + 8 * length ss) ss ++ recordsOf ss)

@@ -18,8 +18,8 @@ use Rattle.rules.proofs.Functions as F
 use Rattle.rules.proofs.Functions.{nothing, found, behind, orThis, latest, undoFrom, removeAll, undoEvent, addAll}
 use Rattle.rules.proofs.Update.{Which, this, other, which}
 use Rattle.rules.proofs.Replay.{Clear}
-use Rattle.rules.proofs.UndoOne as U
-use Rattle.rules.proofs.UndoOne.{Latest}
+use Rattle.rules.proofs.Unmark as U
+use Rattle.rules.proofs.Unmark.{Latest}
 use Rattle.rules.proofs.Stays.{delete-in, place-in}
 use Rattle.rules.proofs.Fuel.{undo-none, undo-some}
 use Rattle.rules.proofs.Members.{all-in}

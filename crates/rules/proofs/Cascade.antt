@@ -17,13 +17,13 @@ use Rattle.line.proofs.Order.{Lt, Ge, co, asym, clash, lt-ge, ge-lt, Differ}
 use Rattle.line.proofs.All.{All, all-map, Distinct}
 use Rattle.line.proofs.Sends.{Sent, Good, event-good}
 use Rattle.rules.proofs.Replay.{sendsOf, afterOf, AllRun, NoRun, Replay, Sorted, Clear, Fresh, sends-later, fresh-above}
-use Rattle.rules.proofs.UndoOne.{Latest, View, latest-view, found-all, found-sorted, found-runs, found-target, found-ge, found-small, undo-replay}
+use Rattle.rules.proofs.Unmark.{Latest, View, latest-view, found-all, found-sorted, found-runs, found-target, found-ge, found-small, undo-replay}
 use Rattle.rules.proofs.Stays.{found-stays, delete-stays, place-stays}
 use Rattle.rules.proofs.Sub.{ranOnes, Sub, sub-refl, sub-trans, found-sub, delete-sub, place-sub}
 use Rattle.rules.proofs.Mark.{First, first-held, mark-sorted, mark-replay, first-small}
 use Rattle.rules.proofs.Delete.{delete-all, delete-sorted, delete-runs, delete-replay, same-lt}
 use Rattle.rules.proofs.Place.{place-all, place-sorted, place-runs, place-replay}
-use Rattle.rules.proofs.UndoOne as U
+use Rattle.rules.proofs.Unmark as U
 use Rattle.rules.proofs.Mark as C
 
 -- ---- the least unrun event of a station, through the changes

@@ -13,7 +13,7 @@ use Rattle.rules.specs.Undo.{NoneLater, Action, Undo, UndoLater, Remove,
 use Rattle.rules.proofs.Functions.{runs, runLeast}
 use Rattle.rules.proofs.Update.{Which, this, other, which}
 use Rattle.rules.proofs.Replay.{Clear}
-use Rattle.rules.proofs.UndoOne.{found-runs}
+use Rattle.rules.proofs.Unmark.{found-runs}
 use Rattle.rules.proofs.Members.{all-in}
 use Rattle.rules.proofs.Mark as C
 use Rattle.rules.proofs.Mark.{First}

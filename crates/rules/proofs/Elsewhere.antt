@@ -4,12 +4,11 @@ use mathlib.Core.Logic.{_≢_}
 use mathlib.Core.Bool.{Bool, true, false, cond, _||_, true≢false}
 use mathlib.Core.List.{List, [], _∷_}
 use Prim.Native.Nat.{ℕ}
-use lib.Dec.{ltb}
 use Rattle.line.specs.declared.Event.{Event}
 use Rattle.line.specs.declared.State.{State}
 use Rattle.line.specs.Event.{before}
 use Rattle.line.proofs.Order.{differ-target}
-use Rattle.rules.specs.Held.{Held, unrun, ran, event, same, unmark, delete, place, mark, kept, unrunBefore, leastUnrun, registered}
+use Rattle.rules.specs.Held.{Held, unrun, ran, event, same, unmark, delete, place, mark, leastUnrun, registered}
 use Rattle.rules.proofs.Update.{Which, this, other, which}
 use Rattle.rules.proofs.Unrun.{least-other, least-ran, least-past, least-both}
 use Rattle.rules.proofs.Registered.{registered-as, differ-same}
@@ -71,24 +70,3 @@ delete-elsewhere x h s n = registered-as s (delete x h) h (delete-least x h s n)
 
 pub mark-elsewhere : (t : ℕ) (b : State) (h : List Held) (s : ℕ) → s ≢ t → registered (mark t b h) s ≡ registered h s
 mark-elsewhere t b h s n = registered-as s (mark t b h) h (mark-least t b h s n)
-
--- ---- a commit, which drops no unrun event
-
-or-false : (a b : Bool) → (a || b) ≡ false → (a ≡ false) × (b ≡ false)
-or-false true b e = absurd (true≢false e)
-or-false false b e = (refl, e)
-
-kept-least : (c : ℕ) (h : List Held) (s : ℕ) → unrunBefore c h ≡ false → leastUnrun s (kept c h) ≡ leastUnrun s h
-unfolding kept unrunBefore
-kept-least c [] s u = refl
-kept-least c (unrun x ∷ h) s u =
-    let k = or-false (ltb (x .time) c) (unrunBefore c h) u in
-    rw (k .0) (least-both s (unrun x) (kept c h) h (kept-least c h s (k .1)))
-kept-least c (ran x b ∷ h) s u = go (ltb (x .time) c) (kept-least c h s u)
-  where
-    go : (v : Bool) → leastUnrun s (kept c h) ≡ leastUnrun s h → leastUnrun s (cond v (kept c h) (ran x b ∷ kept c h)) ≡ leastUnrun s (ran x b ∷ h)
-    go true i = i ∙ sym (least-ran s x b h)
-    go false i = least-both s (ran x b) (kept c h) h i
-
-pub kept-registered : (c : ℕ) (h : List Held) (s : ℕ) → unrunBefore c h ≡ false → registered (kept c h) s ≡ registered h s
-kept-registered c h s u = registered-as s (kept c h) h (kept-least c h s u)

@@ -19,7 +19,7 @@ use Rattle.rules.proofs.Functions.{runs, removeAll, undoEvent}
 use Rattle.rules.proofs.Insert.{insert, insertAll}
 use Rattle.rules.proofs.Update.{Which, this, other, which}
 use Rattle.rules.proofs.Replay.{sendsOf, afterOf, Replay, Fresh}
-use Rattle.rules.proofs.UndoOne.{Latest, found-runs}
+use Rattle.rules.proofs.Unmark.{Latest, found-runs}
 use Rattle.rules.proofs.Cascade.{Ok, After, Below, after-trans, same-after, removal, found-after, found-new, found-ahead, undo-within, remove-after, add-after, no-runs}
 use Rattle.rules.proofs.Fuel.{remove-all}
 use Rattle.rules.proofs.Members.{all-in}
@@ -199,10 +199,6 @@ module _ (p : Plan) (S : InRange p) where
 
       made : After p ws st (Below x) q (undoEvent p q (x .target) x b (unmark x (q .held))) × (suc (runs (undoEvent p q (x .target) x b (unmark x (q .held)) .held)) ≤ runs (q .held))
       made = event-after q (x .target) x x b (unmark x (q .held)) ws st o lat
-
-  -- the bound in After may be narrowed
-  narrow : (ws : List Event) (st : States) (B D : Event → Type 0) (q r : Queue) → ((y : Event) → D y → B y) → After p ws st B q r → After p ws st D q r
-  narrow ws st B D q r i a = record { ok = a .ok; fewer = a .fewer; fresh = a .fresh; keeps = λ s y l f. a .keeps s y (i y l) f; stays = λ z l m. a .stays z (i (event z) l) m; sub = a .sub }
 
   can-later : (n : ℕ) → Can n → (q : Queue) → runs (q .held) ≤ suc n → (ws : List Event) (st : States) → Ok p ws st q → Neat p (q .held) → (x : Event)
       → CanUndoLater ws st q x

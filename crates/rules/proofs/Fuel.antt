@@ -13,7 +13,7 @@ use Rattle.line.specs.Station.{Plan, update, runEvent}
 use Rattle.line.specs.declared.State.{State}
 use Rattle.rules.specs.Held.{Held, Queue, delete}
 use Rattle.rules.proofs.Functions.{runs, Search, nothing, found, latest, removeEach, undoFound, undoWithin, undoFrom, remove, removeAll, undoEvent}
-use Rattle.rules.proofs.UndoOne.{View, latest-view, found-runs}
+use Rattle.rules.proofs.Unmark.{View, latest-view, found-runs}
 use Rattle.rules.proofs.Delete.{delete-runs}
 
 abbrev Undo : Type 0

@@ -3,7 +3,7 @@ pub mod Update
 pub mod Insert
 pub mod SortedMachine
 pub mod Replay
-pub mod UndoOne
+pub mod Unmark
 pub mod Delete
 pub mod Place
 pub mod Mark

@@ -16,8 +16,8 @@ use Rattle.rules.specs.Held.{Held, unrun, ran, event, In, same, unmark, 
 use Rattle.rules.specs.Undo.{NoneLater}
 use Rattle.rules.proofs.Members.{all-in}
 use Rattle.rules.proofs.Replay.{AllRun, NoRun, Clear}
-use Rattle.rules.proofs.UndoOne as U
-use Rattle.rules.proofs.UndoOne.{Latest, clear-norun}
+use Rattle.rules.proofs.Unmark as U
+use Rattle.rules.proofs.Unmark.{Latest, clear-norun}
 use Rattle.rules.proofs.Mark as C
 use Rattle.rules.proofs.Delete.{same-self, same-lt, delete-all}
 use Rattle.rules.proofs.Place.{place-all}

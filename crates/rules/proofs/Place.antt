@@ -13,7 +13,7 @@ use Rattle.rules.specs.Held.{Held, unrun, ran, event, place}
 use Rattle.rules.proofs.Functions.{runs}
 use Rattle.line.proofs.Order.{Lt, Ge, Cmp, less, notLess, cmp, asym}
 use Rattle.rules.proofs.Replay.{sendsOf, afterOf, AllRun, Replay, Above, Sorted, Clear, Fresh}
-use Rattle.rules.proofs.UndoOne.{clear-norun, above-trans}
+use Rattle.rules.proofs.Unmark.{clear-norun, above-trans}
 
 pub place-lt : {x : Event} (y : Held) (h : List Held) → Lt (event y) x → place x (y ∷ h) ≡ y ∷ place x h
 unfolding place

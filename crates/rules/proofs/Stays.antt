@@ -10,10 +10,10 @@ use Rattle.line.specs.Event.{before}
 use Rattle.line.specs.declared.State.{State}
 use Rattle.rules.specs.Held.{Held, unrun, ran, event, same, delete, place, mark, In}
 use Rattle.line.proofs.Order.{Lt, clash}
-use Rattle.rules.proofs.UndoOne.{Latest}
+use Rattle.rules.proofs.Unmark.{Latest}
 use Rattle.rules.proofs.Mark.{First, mark-this, mark-other, mark-ran}
 use Rattle.rules.proofs.Delete.{same-lt}
-use Rattle.rules.proofs.UndoOne as U
+use Rattle.rules.proofs.Unmark as U
 use Rattle.rules.proofs.Mark as C
 
 -- ---- entries that stay

@@ -12,9 +12,9 @@ use Rattle.rules.specs.Held.{Held, unrun, ran, same, isRun, undone, unma
 use Rattle.rules.proofs.Functions.{runs}
 use Rattle.line.proofs.Order.{irr, Differ, fst, snd}
 use Rattle.line.proofs.All.{All, all-map, Distinct}
-use Rattle.rules.proofs.UndoOne.{Latest}
+use Rattle.rules.proofs.Unmark.{Latest}
 use Rattle.rules.proofs.Mark.{First, mark-this, mark-other, mark-ran}
-use Rattle.rules.proofs.UndoOne as U
+use Rattle.rules.proofs.Unmark as U
 use Rattle.rules.proofs.Mark as C
 
 -- the run events, in order

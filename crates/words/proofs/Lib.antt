@@ -1,3 +1,4 @@
+pub mod Cases
 pub mod Halves
 pub mod Total
 pub mod Laws

@@ -6,30 +6,15 @@ use Rattle.calendar.proofs.Obeying.{advance-11, advance-12, advance-15,
 use Rattle.calendar.proofs.advance.Statement.{statement}
 use Rattle.calendar.proofs.advance.Tie as tie
 
-add-if1 : tie.Need-add-if1
-add-if1 c = search needs
-
 returns : tie.Need-returns
 returns c =
     let args = c .before .before .args in
     advance-11 (args .b .now) (args .floor) (c .if1 .taken)
 
-field-requires : tie.Need-field-requires
-field-requires c κs = search needs
-
-same-length : tie.Need-same-length
-same-length c = search needs
-
 returns-2 : tie.Need-returns-2
 returns-2 c =
     let args = c .before .before .before .before .before .args in
     advance-12 (args .b .now) (args .floor) (c .before .before .before .if1 .left) (rw (← c .before .field .ensures) (c .if2 .taken))
-
-early-requires : tie.Need-early-requires
-early-requires c κs = search needs
-
-same-length-2 : tie.Need-same-length-2
-same-length-2 c = search needs
 
 returns-3 : tie.Need-returns-3
 returns-3 c =
@@ -37,12 +22,6 @@ returns-3 c =
     let if1 = c .before .before .before .before .before .before .if1 in
     advance-15 (args .b .now) (args .floor) (if1 .left) (rw (← c .before .before .before .before .field .ensures)
     (c .before .before .before .if2 .left)) (λ S. sym (c .if3 .taken) ∙ c .before .early .ensures S)
-
-rise-requires : tie.Need-rise-requires
-rise-requires c κs = search needs
-
-same-length-3 : tie.Need-same-length-3
-same-length-3 c = search needs
 
 returns-4 : tie.Need-returns-4
 returns-4 c =
@@ -61,14 +40,14 @@ pub advance-spec : {M : Type 1} → statement M
 advance-spec =
     tie.close
     (tie.spec
-    add-if1
+    (λ c. search needs)
     returns
-    field-requires
-    same-length
+    (λ c κs. search needs)
+    (λ c. search needs)
     returns-2
-    early-requires
-    same-length-2
+    (λ c κs. search needs)
+    (λ c. search needs)
     returns-3
-    rise-requires
-    same-length-3
+    (λ c κs. search needs)
+    (λ c. search needs)
     returns-4)

@@ -4,36 +4,6 @@ use Rattle.calendar.proofs.Opening.{begun}
 use Rattle.calendar.proofs.begin.Statement.{statement}
 use Rattle.calendar.proofs.begin.Tie as tie
 
-set-field-requires : tie.Need-set-field-requires
-set-field-requires c κs = search needs
-
-set-field-requires-2 : tie.Need-set-field-requires-2
-set-field-requires-2 c κs = search needs
-
-set-field-requires-3 : tie.Need-set-field-requires-3
-set-field-requires-3 c κs = search needs
-
-mul-set-field : tie.Need-mul-set-field
-mul-set-field c = search needs
-
-set-field-requires-4 : tie.Need-set-field-requires-4
-set-field-requires-4 c κs = search needs
-
-mul-set-field-2 : tie.Need-mul-set-field-2
-mul-set-field-2 c = search needs
-
-set-field-requires-5 : tie.Need-set-field-requires-5
-set-field-requires-5 c κs = search needs
-
-set-field-requires-6 : tie.Need-set-field-requires-6
-set-field-requires-6 c κs = search needs
-
-set-field-requires-7 : tie.Need-set-field-requires-7
-set-field-requires-7 c κs = search needs
-
-same-length : tie.Need-same-length
-same-length c = search needs
-
 returns : tie.Need-returns
 returns c =
     let back10 = c .before .before .before .before .before .before .before .before .before .before in
@@ -55,14 +25,14 @@ pub begin-spec : {M : Type 1} → statement M
 begin-spec =
     tie.close
     (tie.spec
-    set-field-requires
-    set-field-requires-2
-    set-field-requires-3
-    mul-set-field
-    set-field-requires-4
-    mul-set-field-2
-    set-field-requires-5
-    set-field-requires-6
-    set-field-requires-7
-    same-length
+    (λ c κs. search needs)
+    (λ c κs. search needs)
+    (λ c κs. search needs)
+    (λ c. search needs)
+    (λ c κs. search needs)
+    (λ c. search needs)
+    (λ c κs. search needs)
+    (λ c κs. search needs)
+    (λ c κs. search needs)
+    (λ c. search needs)
     returns)

@@ -6,15 +6,6 @@ use Rattle.calendar.proofs.Naming.{early-at, early-none}
 use Rattle.calendar.proofs.early.Statement.{statement}
 use Rattle.calendar.proofs.early.Tie as tie
 
-lowest-requires : tie.Need-lowest-requires
-lowest-requires c κs = search needs
-
-enum-known-at : tie.Need-enum-known-at
-enum-known-at c = search needs
-
-enum-told : tie.Need-enum-told
-enum-told c = search needs
-
 returns : tie.Need-returns
 returns c =
     let args = c .before .before .before .before .before .args in
@@ -28,4 +19,4 @@ returns-2 c =
     (subst (Names (args .b .now)) (c .enum-told .given .1) (c .before .before .lowest .ensures))
 
 pub early-spec : {M : Type 1} → statement M
-early-spec = tie.close (tie.spec lowest-requires enum-known-at enum-told returns returns-2)
+early-spec = tie.close (tie.spec (λ c κs. search needs) (λ c. search needs) (λ c. search needs) returns returns-2)

@@ -5,26 +5,11 @@ use Rattle.calendar.proofs.Fetching.{not-absent, fetch-floor, moved-non
 use Rattle.calendar.proofs.fetch.Statement.{statement}
 use Rattle.calendar.proofs.fetch.Tie as tie
 
-due-requires : tie.Need-due-requires
-due-requires c κs = search needs
-
-same-length : tie.Need-same-length
-same-length c = search needs
-
 returns : tie.Need-returns
 returns c =
     let args = c .before .before .before .before .args in
     let pre = c .before .before .before .before .pre in
     λ S W. absurd (not-absent (args .b .now) (args .s) (c .before .due .result) 0 pre S W (c .before .due .ensures .0 pre) (c .if1 .taken))
-
-sub-leaf : tie.Need-sub-leaf
-sub-leaf c = search needs
-
-leaf-requires : tie.Need-leaf-requires
-leaf-requires c κs = search needs
-
-same-length-2 : tie.Need-same-length-2
-same-length-2 c = search needs
 
 returns-2 : tie.Need-returns-2
 returns-2 c =
@@ -35,12 +20,6 @@ returns-2 c =
     let ed = due .ensures .0 pre in
     let el = c .before .leaf .ensures (S .header) (fetch-floor (args .b .now) (args .s) (due .result) (c .before .leaf .result) pre S W ed) in
     moved-none (args .b .now) (args .s) (due .result) (c .before .leaf .result) pre S W ed el (c .if2 .taken)
-
-put-requires : tie.Need-put-requires
-put-requires c κs = search needs
-
-same-length-3 : tie.Need-same-length-3
-same-length-3 c = search needs
 
 returns-3 : tie.Need-returns-3
 returns-3 c =
@@ -60,13 +39,13 @@ pub fetch-spec : {M : Type 1} → statement M
 fetch-spec =
     tie.close
     (tie.spec
-    due-requires
-    same-length
+    (λ c κs. search needs)
+    (λ c. search needs)
     returns
-    sub-leaf
-    leaf-requires
-    same-length-2
+    (λ c. search needs)
+    (λ c κs. search needs)
+    (λ c. search needs)
     returns-2
-    put-requires
-    same-length-3
+    (λ c κs. search needs)
+    (λ c. search needs)
     returns-3)

@@ -5,12 +5,6 @@ use Rattle.calendar.proofs.Order.{first-leaves, first-over}
 use Rattle.calendar.proofs.first.Statement.{statement}
 use Rattle.calendar.proofs.first.Tie as tie
 
-field-requires : tie.Need-field-requires
-field-requires c κs = search needs
-
-first-requires : tie.Need-first-requires
-first-requires c κs = search needs
-
 returns : tie.Need-returns
 returns c =
     let field = c .before .before .field in (
@@ -18,9 +12,6 @@ returns c =
       λ S. first-leaves (c .before .before .before .before .args .b .now) S (field .result) (c .before .first .result)
           (field .ensures) (c .before .first .ensures .1 (S .table)) (c .if1 .taken),
     )
-
-nearest-requires : tie.Need-nearest-requires
-nearest-requires c κs = search needs
 
 returns-2 : tie.Need-returns-2
 returns-2 c =
@@ -32,4 +23,4 @@ returns-2 c =
     )
 
 pub first-spec : {M : Type 1} → statement M
-first-spec = tie.close (tie.spec field-requires first-requires returns nearest-requires returns-2)
+first-spec = tie.close (tie.spec (λ c κs. search needs) (λ c κs. search needs) returns (λ c κs. search needs) returns-2)

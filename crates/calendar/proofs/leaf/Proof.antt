@@ -8,48 +8,15 @@ use Rattle.calendar.specs.Bytes.{widthOf, limitOf}
 use Rattle.calendar.proofs.leaf.Statement.{statement}
 use Rattle.calendar.proofs.leaf.Tie as tie
 
-field-requires : tie.Need-field-requires
-field-requires c κs = search needs
-
 returns : tie.Need-returns
 returns c =
     let args = c .before .before .before .args in
     λ H f. sym (leaf-over (widthOf (args .b .now)) (limitOf (args .b .now)) (args .time) (rw (← c .before .field .ensures) (c .if1 .taken)))
 
-field-requires-2 : tie.Need-field-requires-2
-field-requires-2 c κs = search needs
-
 returns-2 : tie.Need-returns-2
 returns-2 c =
     let args = c .before .before .before .before .before .args in
     λ H f. absurd (omega (arith, start-before (args .b .now) H (args .time) f, c .before .field2 .ensures, c .if2 .taken))
-
-field-requires-3 : tie.Need-field-requires-3
-field-requires-3 c κs = search needs
-
-cast-width : tie.Need-cast-width
-cast-width c = search needs
-
-returns-3 : tie.Need-returns-3
-returns-3 c = search needs
-
-cast-k : tie.Need-cast-k
-cast-k c = search needs
-
-div-k : tie.Need-div-k
-div-k c = search needs
-
-field-requires-4 : tie.Need-field-requires-4
-field-requires-4 c κs = search needs
-
-mul-result : tie.Need-mul-result
-mul-result c = search needs
-
-cast-result : tie.Need-cast-result
-cast-result c = search needs
-
-add-result : tie.Need-add-result
-add-result c = search needs
 
 returns-4 : tie.Need-returns-4
 returns-4 c =
@@ -65,17 +32,17 @@ pub leaf-spec : {M : Type 1} → statement M
 leaf-spec =
     tie.close
     (tie.spec
-    field-requires
+    (λ c κs. search needs)
     returns
-    field-requires-2
+    (λ c κs. search needs)
     returns-2
-    field-requires-3
-    cast-width
-    returns-3
-    cast-k
-    div-k
-    field-requires-4
-    mul-result
-    cast-result
-    add-result
+    (λ c κs. search needs)
+    (λ c. search needs)
+    (λ c. search needs)
+    (λ c. search needs)
+    (λ c. search needs)
+    (λ c κs. search needs)
+    (λ c. search needs)
+    (λ c. search needs)
+    (λ c. search needs)
     returns-4)

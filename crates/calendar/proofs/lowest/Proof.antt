@@ -4,17 +4,8 @@ use Rattle.calendar.proofs.Naming.{names-idle, names-lost, names-at}
 use Rattle.calendar.proofs.lowest.Statement.{statement}
 use Rattle.calendar.proofs.lowest.Tie as tie
 
-first-requires : tie.Need-first-requires
-first-requires c κs = search needs
-
 returns : tie.Need-returns
 returns c = names-idle (c .before .before .before .args .b .now) (c .before .first .result) (c .before .first .ensures .1) (c .if1 .taken)
-
-sub-due : tie.Need-sub-due
-sub-due c = search needs
-
-due-requires : tie.Need-due-requires
-due-requires c κs = search needs
 
 returns-2 : tie.Need-returns-2
 returns-2 c =
@@ -22,12 +13,6 @@ returns-2 c =
     let first = c .before .before .before .first in
     names-lost (args .b .now) (first .result) (first .ensures .1) (c .before .due .result) (c .before .before .if1 .left) (first .ensures .0)
     (c .before .due .ensures .0) (c .if2 .taken)
-
-sub-t9 : tie.Need-sub-t9
-sub-t9 c = search needs
-
-sub-t10 : tie.Need-sub-t10
-sub-t10 c = search needs
 
 returns-3 : tie.Need-returns-3
 returns-3 c =
@@ -39,4 +24,4 @@ returns-3 c =
 pub lowest-spec : {M : Type 1} → statement M
 lowest-spec =
     tie.close
-    (tie.spec first-requires returns sub-due due-requires returns-2 sub-t9 sub-t10 returns-3)
+    (tie.spec (λ c κs. search needs) returns (λ c. search needs) (λ c κs. search needs) returns-2 (λ c. search needs) (λ c. search needs) returns-3)

@@ -5,25 +5,10 @@ use Rattle.calendar.proofs.Overflow.{nearer-start, nearer-taken, nearer
 use Rattle.calendar.proofs.nearer.Statement.{statement}
 use Rattle.calendar.proofs.nearer.Tie as tie
 
-add-result : tie.Need-add-result
-add-result c = search needs
-
 returns : tie.Need-returns
 returns c =
     let args = c .before .before .args in
     (search needs, nearer-start (args .b .now) (args .best) (args .s) (c .if1 .taken))
-
-due-requires : tie.Need-due-requires
-due-requires c κs = search needs
-
-sub-due : tie.Need-sub-due
-sub-due c = search needs
-
-due-requires-2 : tie.Need-due-requires-2
-due-requires-2 c κs = search needs
-
-add-result-2 : tie.Need-add-result-2
-add-result-2 c = search needs
 
 returns-2 : tie.Need-returns-2
 returns-2 c =
@@ -47,11 +32,11 @@ pub nearer-spec : {M : Type 1} → statement M
 nearer-spec =
     tie.close
     (tie.spec
-    add-result
+    (λ c. search needs)
     returns
-    due-requires
-    sub-due
-    due-requires-2
-    add-result-2
+    (λ c κs. search needs)
+    (λ c. search needs)
+    (λ c κs. search needs)
+    (λ c. search needs)
     returns-2
     returns-3)

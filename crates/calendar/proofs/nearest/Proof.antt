@@ -17,9 +17,6 @@ abbrev μ-loop : tie.MeasureT-loop
 loop-holds : tie.Need-loop-holds Inv-loop μ-loop
 loop-holds c = (omega arith, omega arith, λ S. nearest-start (c .before .args .b .now))
 
-later-requires : tie.Need-later-requires Inv-loop μ-loop
-later-requires c κs = search needs
-
 returns : tie.Need-returns Inv-loop μ-loop
 returns c =
     let args = c .before .before .before .before .before .args in
@@ -28,9 +25,6 @@ returns c =
       λ S. nearest-none (args .b .now) (loop .from) (loop .best) (c .before .later .result) (loop .inv .2 S)
           (c .before .later .ensures .1 (S .table)) (c .if1 .taken),
     )
-
-nearer-requires : tie.Need-nearer-requires Inv-loop μ-loop
-nearer-requires c κs = search needs
 
 add-from : tie.Need-add-from Inv-loop μ-loop
 add-from c = omega arith
@@ -64,9 +58,9 @@ nearest-spec =
     Inv-loop
     μ-loop
     loop-holds
-    later-requires
+    (λ c κs. search needs)
     returns
-    nearer-requires
+    (λ c κs. search needs)
     add-from
     loop-less
     loop-again

@@ -25,26 +25,11 @@ returns-4 c =
     open-many (args .b .now) (args .n) (args .width) (c .before .before .before .if1 .left) (c .before .before .if2 .left) (c .before .if3 .left)
     (c .if4 .taken)
 
-mul-if5 : tie.Need-mul-if5
-mul-if5 c = search needs
-
-add-if5 : tie.Need-add-if5
-add-if5 c = search needs
-
 returns-5 : tie.Need-returns-5
 returns-5 c =
     let args = c .before .before .before .before .before .before .args in
     open-short (args .b .now) (args .n) (args .width) (c .before .before .before .before .if1 .left) (c .before .before .before .if2 .left)
     (c .before .before .if3 .left) (c .before .if4 .left) (c .if5 .taken)
-
-clear-requires : tie.Need-clear-requires
-clear-requires c κs = search needs
-
-begin-requires : tie.Need-begin-requires
-begin-requires c κs = search needs
-
-same-length : tie.Need-same-length
-same-length c = search needs
 
 returns-6 : tie.Need-returns-6
 returns-6 c =
@@ -68,10 +53,10 @@ open-spec =
     returns-2
     returns-3
     returns-4
-    mul-if5
-    add-if5
+    (λ c. search needs)
+    (λ c. search needs)
     returns-5
-    clear-requires
-    begin-requires
-    same-length
+    (λ c κs. search needs)
+    (λ c κs. search needs)
+    (λ c. search needs)
     returns-6)

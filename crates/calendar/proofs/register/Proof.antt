@@ -4,20 +4,11 @@ use Rattle.calendar.proofs.Obeying.{out-of, one-of, register-9, registe
 use Rattle.calendar.proofs.register.Statement.{statement}
 use Rattle.calendar.proofs.register.Tie as tie
 
-stations-requires : tie.Need-stations-requires
-stations-requires c κs = search needs
-
-same-length : tie.Need-same-length
-same-length c = search needs
-
 returns : tie.Need-returns
 returns c =
     let args = c .before .before .before .before .args in
     register-9 (args .b .now) (args .station) (args .time) (out-of (args .b .now) (c .before .stations .result) (args .station)
     (c .before .stations .ensures .0) (c .if1 .taken))
-
-same-length-2 : tie.Need-same-length-2
-same-length-2 c = search needs
 
 returns-2 : tie.Need-returns-2
 returns-2 c =
@@ -26,12 +17,6 @@ returns-2 c =
     register-11 (args .b .now) (args .station) (args .time) (one-of (args .b .now) (stations .result) (args .station) (stations .ensures .0)
     (c .before .if1 .left)) (c .if2 .taken)
 
-field-requires : tie.Need-field-requires
-field-requires c κs = search needs
-
-same-length-3 : tie.Need-same-length-3
-same-length-3 c = search needs
-
 returns-3 : tie.Need-returns-3
 returns-3 c =
     let args = c .before .before .before .before .before .before .before .before .args in
@@ -39,12 +24,6 @@ returns-3 c =
     register-12 (args .b .now) (args .station) (args .time) (one-of (args .b .now) (stations .result) (args .station) (stations .ensures .0)
     (c .before .before .before .before .if1 .left)) (c .before .before .before .if2 .left)
     (rw (← c .before .field .ensures) (c .if3 .taken))
-
-enter-requires : tie.Need-enter-requires
-enter-requires c κs = search needs
-
-same-length-4 : tie.Need-same-length-4
-same-length-4 c = search needs
 
 returns-4 : tie.Need-returns-4
 returns-4 c =
@@ -62,14 +41,14 @@ pub register-spec : {M : Type 1} → statement M
 register-spec =
     tie.close
     (tie.spec
-    stations-requires
-    same-length
+    (λ c κs. search needs)
+    (λ c. search needs)
     returns
-    same-length-2
+    (λ c. search needs)
     returns-2
-    field-requires
-    same-length-3
+    (λ c κs. search needs)
+    (λ c. search needs)
     returns-3
-    enter-requires
-    same-length-4
+    (λ c κs. search needs)
+    (λ c. search needs)
     returns-4)

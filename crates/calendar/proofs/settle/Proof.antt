@@ -17,23 +17,11 @@ abbrev μ-loop : tie.MeasureT-loop
 loop-holds : tie.Need-loop-holds Inv-loop μ-loop
 loop-holds c = (omega arith, search needs, settle-start (c .before .args .b .now))
 
-later-requires : tie.Need-later-requires Inv-loop μ-loop
-later-requires c κs = search needs
-
-same-length : tie.Need-same-length Inv-loop μ-loop
-same-length c = search needs
-
 returns : tie.Need-returns Inv-loop μ-loop
 returns c =
     let args = c .before .before .before .before .before .before .args in
     let loop = c .before .before .before .before .loop in
     settle-none (args .b .now) (loop .b) (loop .from) (c .before .later .result) (loop .inv .2) (c .before .later .ensures .1) (c .if1 .taken)
-
-fetch-requires : tie.Need-fetch-requires Inv-loop μ-loop
-fetch-requires c κs = search needs
-
-add-from : tie.Need-add-from Inv-loop μ-loop
-add-from c = search needs
 
 loop-less : tie.Need-loop-less Inv-loop μ-loop
 loop-less c =
@@ -52,9 +40,6 @@ loop-again c =
           (later .ensures .1) (c .before .before .before .before .if1 .left) (fetch .ensures),
     )
 
-same-length-2 : tie.Need-same-length-2 Inv-loop μ-loop
-same-length-2 c = search needs
-
 returns-2 : tie.Need-returns-2 Inv-loop μ-loop
 returns-2 c = settle-end (c .before .before .before .args .b .now) (c .before .loop .b) (c .before .loop .from) (c .before .loop .inv .2) (c .loop-test .left)
 
@@ -65,12 +50,12 @@ settle-spec =
     Inv-loop
     μ-loop
     loop-holds
-    later-requires
-    same-length
+    (λ c κs. search needs)
+    (λ c. search needs)
     returns
-    fetch-requires
-    add-from
+    (λ c κs. search needs)
+    (λ c. search needs)
     loop-less
     loop-again
-    same-length-2
+    (λ c. search needs)
     returns-2)

@@ -7,29 +7,11 @@ use Rattle.calendar.proofs.Floor.{start-fits, end-fits, limit-fits, ris
 use Rattle.calendar.proofs.turn.Statement.{statement}
 use Rattle.calendar.proofs.turn.Tie as tie
 
-field-requires : tie.Need-field-requires
-field-requires c κs = search needs
-
-same-length : tie.Need-same-length
-same-length c = search needs
-
 returns : tie.Need-returns
 returns c = λ S A up. absurd (omega (arith, c .before .field .ensures, S .header .width-pos))
 
-same-length-2 : tie.Need-same-length-2
-same-length-2 c = search needs
-
 returns-2 : tie.Need-returns-2
 returns-2 c = λ S A up. absurd (omega (arith, c .before .before .field .ensures, S .header .width-most))
-
-mul-span : tie.Need-mul-span
-mul-span c = search needs
-
-div-block : tie.Need-div-block
-div-block c = search needs
-
-set-field-requires : tie.Need-set-field-requires
-set-field-requires c κs = search needs
 
 mul-set-field : tie.Need-mul-set-field
 mul-set-field c =
@@ -38,9 +20,6 @@ mul-set-field c =
     let field = c .before .before .before .before .before .before .before .field in
     let if2 = c .before .before .before .before .before .if2 in
     omega (arith, start-fits (args .floor) (field .result) pre (if2 .left))
-
-set-field-requires-2 : tie.Need-set-field-requires-2
-set-field-requires-2 c κs = search needs
 
 add-set-field : tie.Need-add-set-field
 add-set-field c =
@@ -58,9 +37,6 @@ mul-set-field-2 c =
     let if2 = c .before .before .before .before .before .before .before .before .before .if2 in
     omega (arith, end-fits (args .floor) (field .result) pre (if2 .left))
 
-set-field-requires-3 : tie.Need-set-field-requires-3
-set-field-requires-3 c κs = search needs
-
 add-set-field-2 : tie.Need-add-set-field-2
 add-set-field-2 c =
     let back10 = c .before .before .before .before .before .before .before .before .before .before in
@@ -76,18 +52,6 @@ mul-set-field-3 c =
     let field = back10 .before .before .before .before .before .field in
     let if2 = back10 .before .before .before .if2 in
     omega (arith, limit-fits (args .floor) (field .result) pre (if2 .left))
-
-set-field-requires-4 : tie.Need-set-field-requires-4
-set-field-requires-4 c κs = search needs
-
-set-field-requires-5 : tie.Need-set-field-requires-5
-set-field-requires-5 c κs = search needs
-
-settle-requires : tie.Need-settle-requires
-settle-requires c κs = search needs
-
-same-length-3 : tie.Need-same-length-3
-same-length-3 c = search needs
 
 returns-3 : tie.Need-returns-3
 returns-3 c =
@@ -112,23 +76,23 @@ pub turn-spec : {M : Type 1} → statement M
 turn-spec =
     tie.close
     (tie.spec
-    field-requires
-    same-length
+    (λ c κs. search needs)
+    (λ c. search needs)
     returns
-    same-length-2
+    (λ c. search needs)
     returns-2
-    mul-span
-    div-block
-    set-field-requires
+    (λ c. search needs)
+    (λ c. search needs)
+    (λ c κs. search needs)
     mul-set-field
-    set-field-requires-2
+    (λ c κs. search needs)
     add-set-field
     mul-set-field-2
-    set-field-requires-3
+    (λ c κs. search needs)
     add-set-field-2
     mul-set-field-3
-    set-field-requires-4
-    set-field-requires-5
-    settle-requires
-    same-length-3
+    (λ c κs. search needs)
+    (λ c κs. search needs)
+    (λ c κs. search needs)
+    (λ c. search needs)
     returns-3)

@@ -5,23 +5,11 @@ use Rattle.calendar.proofs.Obeying.{out-of, one-of, unregister-9, unreg
 use Rattle.calendar.proofs.unregister.Statement.{statement}
 use Rattle.calendar.proofs.unregister.Tie as tie
 
-stations-requires : tie.Need-stations-requires
-stations-requires c κs = search needs
-
-same-length : tie.Need-same-length
-same-length c = search needs
-
 returns : tie.Need-returns
 returns c =
     let args = c .before .before .before .before .args in
     unregister-9 (args .b .now) (args .station) (out-of (args .b .now) (c .before .stations .result) (args .station)
     (c .before .stations .ensures .0) (c .if1 .taken))
-
-take-requires : tie.Need-take-requires
-take-requires c κs = search needs
-
-same-length-2 : tie.Need-same-length-2
-same-length-2 c = search needs
 
 returns-2 : tie.Need-returns-2
 returns-2 c =
@@ -35,4 +23,4 @@ returns-2 c =
 pub unregister-spec : {M : Type 1} → statement M
 unregister-spec =
     tie.close
-    (tie.spec stations-requires same-length returns take-requires same-length-2 returns-2)
+    (tie.spec (λ c κs. search needs) (λ c. search needs) returns (λ c κs. search needs) (λ c. search needs) returns-2)

@@ -16,15 +16,6 @@ abbrev μ-loop : tie.MeasureT-loop
 loop-holds : tie.Need-loop-holds Inv-loop μ-loop
 loop-holds c = refl
 
-call-requires : tie.Need-call-requires Inv-loop μ-loop
-call-requires c κs = search needs
-
-thrice-requires : tie.Need-thrice-requires Inv-loop μ-loop
-thrice-requires c κs = search needs
-
-raised-requires : tie.Need-raised-requires Inv-loop μ-loop
-raised-requires c κs = search needs
-
 add-i : tie.Need-add-i Inv-loop μ-loop
 add-i c = omega arith
 
@@ -41,9 +32,6 @@ loop-again c =
 same-length : tie.Need-same-length Inv-loop μ-loop
 same-length c = c .before .loop .inv
 
-returns : tie.Need-returns Inv-loop μ-loop
-returns c = search needs
-
 pub calls-spec : {M : Type 1} → statement M
 calls-spec =
     tie.close
@@ -51,11 +39,11 @@ calls-spec =
     Inv-loop
     μ-loop
     loop-holds
-    call-requires
-    thrice-requires
-    raised-requires
+    (λ c κs. search needs)
+    (λ c κs. search needs)
+    (λ c κs. search needs)
     add-i
     loop-less
     loop-again
     same-length
-    returns)
+    (λ c. search needs))

@@ -13,21 +13,6 @@ use Rattle.calendar.specs.Promises.{Obeys}
 use Rattle.calendar_test.proofs.register_in.Statement.{statement}
 use Rattle.calendar_test.proofs.register_in.Tie as tie
 
-sub-register : tie.Need-sub-register
-sub-register c = search needs
-
-part-register-start : tie.Need-part-register-start
-part-register-start c = search needs
-
-part-register-end : tie.Need-part-register-end
-part-register-end c = search needs
-
-register-requires : tie.Need-register-requires
-register-requires c κs = search needs
-
-same-length : tie.Need-same-length
-same-length c = search needs
-
 returns : tie.Need-returns
 returns c =
     let args = c .before .before .before .before .before .args in
@@ -49,9 +34,9 @@ pub register-in-spec : {M : Type 1} → statement M
 register-in-spec =
     tie.close
     (tie.spec
-    sub-register
-    part-register-start
-    part-register-end
-    register-requires
-    same-length
+    (λ c. search needs)
+    (λ c. search needs)
+    (λ c. search needs)
+    (λ c κs. search needs)
+    (λ c. search needs)
     returns)

@@ -1,25 +1,13 @@
 -- An empty place adds nothing, and the other one its event.
 use mathlib.Core.Path.{refl}
 use native.Mathlib.Omega.{arith}
-use Rattle.rollback.proofs.Behinds.{behind-same}
+use Rattle.engine_rollback.proofs.Behinds.{behind-same}
 use borrow.Author.Needs.{needs}
 use Rattle.engine.proofs.add_send.Statement.{statement}
 use Rattle.engine.proofs.add_send.Tie as tie
 
-enum-told : tie.Need-enum-told
-enum-told c = search needs
-
-enum-known-s : tie.Need-enum-known-s
-enum-known-s c = search needs
-
-add-requires : tie.Need-add-requires
-add-requires c κs = search needs
-
 returns : tie.Need-returns
 returns c = (behind-same _, (omega arith, rw (c .enum-told .given .1) (refl, refl, refl)))
-
-same-length : tie.Need-same-length
-same-length c = search needs
 
 returns-2 : tie.Need-returns-2
 returns-2 c =
@@ -29,4 +17,4 @@ returns-2 c =
 
 pub add-send-spec : {M : Type 1} → statement M
 add-send-spec =
-    tie.close (tie.spec enum-told enum-known-s add-requires returns same-length returns-2)
+    tie.close (tie.spec (λ c. search needs) (λ c. search needs) (λ c κs. search needs) returns (λ c. search needs) returns-2)

@@ -15,15 +15,6 @@ abbrev μ-loop : tie.MeasureT-loop
 loop-holds : tie.Need-loop-holds Inv-loop μ-loop
 loop-holds c = (omega arith, begun-none _ _ _)
 
-config-at-requires : tie.Need-config-at-requires Inv-loop μ-loop
-config-at-requires c κs = search needs
-
-set-config-requires : tie.Need-set-config-requires Inv-loop μ-loop
-set-config-requires c κs = search needs
-
-set-state-requires : tie.Need-set-state-requires Inv-loop μ-loop
-set-state-requires c κs = search needs
-
 add-s : tie.Need-add-s Inv-loop μ-loop
 add-s c = omega arith
 
@@ -53,9 +44,9 @@ begin-stations-spec =
     Inv-loop
     μ-loop
     loop-holds
-    config-at-requires
-    set-config-requires
-    set-state-requires
+    (λ c κs. search needs)
+    (λ c κs. search needs)
+    (λ c κs. search needs)
     add-s
     loop-less
     loop-again

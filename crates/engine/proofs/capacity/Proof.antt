@@ -6,17 +6,11 @@ use Rattle.engine.proofs.Bounds.{over, within}
 use Rattle.engine.proofs.capacity.Statement.{statement}
 use Rattle.engine.proofs.capacity.Tie as tie
 
-header-requires : tie.Need-header-requires
-header-requires c κs = search needs
-
 returns : tie.Need-returns
 returns c = over 4096 (c .before .header .ensures .0 (lit< tt)) (c .if1 .taken)
-
-cast-result : tie.Need-cast-result
-cast-result c = search needs
 
 returns-2 : tie.Need-returns-2
 returns-2 c = within 4096 (c .before .header .ensures .0 (lit< tt)) (omega (arith, c .if1 .left))
 
 pub capacity-spec : {M : Type 1} → statement M
-capacity-spec = tie.close (tie.spec header-requires returns cast-result returns-2)
+capacity-spec = tie.close (tie.spec (λ c κs. search needs) returns (λ c. search needs) returns-2)

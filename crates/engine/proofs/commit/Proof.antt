@@ -8,18 +8,6 @@ use Rattle.engine.proofs.Committing.{commit-done}
 use Rattle.engine.proofs.commit.Statement.{statement}
 use Rattle.engine.proofs.commit.Tie as tie
 
-stations-requires : tie.Need-stations-requires
-stations-requires c κs = search needs
-
-capacity-requires : tie.Need-capacity-requires
-capacity-requires c κs = search needs
-
-fits-requires : tie.Need-fits-requires
-fits-requires c κs = search needs
-
-same-length : tie.Need-same-length
-same-length c = search needs
-
 returns : tie.Need-returns
 returns c =
     let s = c .before .before .before in
@@ -27,22 +15,10 @@ returns c =
     says-space (args .time) (args .b .now) (args .out .now) (s .before .before .stations .ensures) (s .capacity .ensures) (c .before .fits2 .ensures)
     (c .if1 .taken)
 
-add-if2 : tie.Need-add-if2
-add-if2 c = search needs
-
-same-length-2 : tie.Need-same-length-2
-same-length-2 c = search needs
-
 returns-2 : tie.Need-returns-2
 returns-2 c =
     let args = c .before .before .before .before .before .before .before .before .before .before .args in
     says-late (args .time) (args .b .now) (args .out .now) (c .if2 .taken)
-
-header-requires : tie.Need-header-requires
-header-requires c κs = search needs
-
-same-length-3 : tie.Need-same-length-3
-same-length-3 c = search needs
 
 returns-3 : tie.Need-returns-3
 returns-3 c =
@@ -50,12 +26,6 @@ returns-3 c =
     let args = i .before .before .before .before .before .before .before .before .before .before .args in
     let word = c .before .header .ensures .0 (omega arith) in
     says-early (args .time) (args .b .now) (args .out .now) (omega (arith, i .if2 .left)) (omega (arith, word, c .if3 .taken))
-
-unrun-before-requires : tie.Need-unrun-before-requires
-unrun-before-requires c κs = search needs
-
-same-length-4 : tie.Need-same-length-4
-same-length-4 c = search needs
 
 returns-4 : tie.Need-returns-4
 returns-4 c =
@@ -68,18 +38,6 @@ returns-4 c =
     (omega (arith, word, h .if3 .left))
     (c .before .unrun-before .ensures)
     (c .if4 .taken)
-
-count-before-requires : tie.Need-count-before-requires
-count-before-requires c κs = search needs
-
-cast-if5 : tie.Need-cast-if5
-cast-if5 c = search needs
-
-mul-if5 : tie.Need-mul-if5
-mul-if5 c = search needs
-
-same-length-5 : tie.Need-same-length-5
-same-length-5 c = search needs
 
 returns-5 : tie.Need-returns-5
 returns-5 c =
@@ -95,24 +53,6 @@ returns-5 c =
     (u .if4 .left)
     (c .before .count-before .ensures .1)
     (c .if5 .taken)
-
-write-first-requires : tie.Need-write-first-requires
-write-first-requires c κs = search needs
-
-set-header-requires : tie.Need-set-header-requires
-set-header-requires c κs = search needs
-
-raise-requires : tie.Need-raise-requires
-raise-requires c κs = search needs
-
-cast-t16 : tie.Need-cast-t16
-cast-t16 c = search needs
-
-same-length-6 : tie.Need-same-length-6
-same-length-6 c = search needs
-
-same-length-7 : tie.Need-same-length-7
-same-length-7 c = search needs
 
 returns-6 : tie.Need-returns-6
 returns-6 c =
@@ -143,29 +83,29 @@ pub commit-spec : {M : Type 1} → statement M
 commit-spec =
     tie.close
     (tie.spec
-    stations-requires
-    capacity-requires
-    fits-requires
-    same-length
+    (λ c κs. search needs)
+    (λ c κs. search needs)
+    (λ c κs. search needs)
+    (λ c. search needs)
     returns
-    add-if2
-    same-length-2
+    (λ c. search needs)
+    (λ c. search needs)
     returns-2
-    header-requires
-    same-length-3
+    (λ c κs. search needs)
+    (λ c. search needs)
     returns-3
-    unrun-before-requires
-    same-length-4
+    (λ c κs. search needs)
+    (λ c. search needs)
     returns-4
-    count-before-requires
-    cast-if5
-    mul-if5
-    same-length-5
+    (λ c κs. search needs)
+    (λ c. search needs)
+    (λ c. search needs)
+    (λ c. search needs)
     returns-5
-    write-first-requires
-    set-header-requires
-    raise-requires
-    cast-t16
-    same-length-6
-    same-length-7
+    (λ c κs. search needs)
+    (λ c κs. search needs)
+    (λ c κs. search needs)
+    (λ c. search needs)
+    (λ c. search needs)
+    (λ c. search needs)
     returns-6)

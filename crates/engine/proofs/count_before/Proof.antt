@@ -13,16 +13,10 @@ Inv-loop b n c time x₀ count₀ x count = (count ≤ c) × Counting n c b time
 abbrev μ-loop : tie.MeasureT-loop
 μ-loop b n c time x₀ count₀ x count = c - count
 
-next-logged-requires : tie.Need-next-logged-requires Inv-loop μ-loop
-next-logged-requires c κs = search needs
-
 loop-holds : tie.Need-loop-holds Inv-loop μ-loop
 loop-holds c =
     let args = c .before .before .args in
     (omega arith, counting-start (args .n) (args .c) (args .b .now) (args .time) (c .next-logged .ensures))
-
-slot-in-requires : tie.Need-slot-in-requires Inv-loop μ-loop
-slot-in-requires c κs = search needs
 
 returns : tie.Need-returns Inv-loop μ-loop
 returns c =
@@ -32,9 +26,6 @@ returns c =
     let none = no-slot (c .before .slot-in .ensures) (c .if1 .taken) in
     (inv .0, counting-ends (args .n) (args .c) (args .b .now) (args .time) (inv .1) (λ some early more. none some))
 
-time-requires : tie.Need-time-requires Inv-loop μ-loop
-time-requires c κs = search needs
-
 returns-2 : tie.Need-returns-2 Inv-loop μ-loop
 returns-2 c =
     let l = c .before .before .before .before .before in
@@ -43,9 +34,6 @@ returns-2 c =
     let slot = c .before .before .before .slot-in .ensures .sound (c .before .before .if1 .left) in
     let read = read-time (args .n) (l .loop .x) (args .b .now) (slot .1) (c .before .time .ensures) in
     (inv .0, counting-ends (args .n) (args .c) (args .b .now) (args .time) (inv .1) (λ some early more. omega (arith, read, early, c .if2 .taken)))
-
-next-logged-requires-2 : tie.Need-next-logged-requires-2 Inv-loop μ-loop
-next-logged-requires-2 c κs = search needs
 
 add-count : tie.Need-add-count Inv-loop μ-loop
 add-count c = omega arith
@@ -80,13 +68,13 @@ count-before-spec =
     (tie.spec
     Inv-loop
     μ-loop
-    next-logged-requires
+    (λ c κs. search needs)
     loop-holds
-    slot-in-requires
+    (λ c κs. search needs)
     returns
-    time-requires
+    (λ c κs. search needs)
     returns-2
-    next-logged-requires-2
+    (λ c κs. search needs)
     add-count
     loop-less
     loop-again

@@ -20,9 +20,6 @@ abbrev μ-loop : tie.MeasureT-loop
 loop-holds : tie.Need-loop-holds Inv-loop μ-loop
 loop-holds c = (omega arith, λ k h. absurd (omega arith))
 
-is-post-requires : tie.Need-is-post-requires Inv-loop μ-loop
-is-post-requires c κs = search needs
-
 mul-result : tie.Need-mul-result Inv-loop μ-loop
 mul-result c = omega arith
 
@@ -62,7 +59,7 @@ find-post-spec =
     Inv-loop
     μ-loop
     loop-holds
-    is-post-requires
+    (λ c κs. search needs)
     mul-result
     add-result
     add-result-2

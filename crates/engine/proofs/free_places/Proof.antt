@@ -5,26 +5,11 @@ use borrow.Author.Needs.{needs}
 use Rattle.engine.proofs.free_places.Statement.{statement}
 use Rattle.engine.proofs.free_places.Tie as tie
 
-mul-next : tie.Need-mul-next
-mul-next c = search needs
-
-next-requires : tie.Need-next-requires
-next-requires c κs = search needs
-
-mul-if1 : tie.Need-mul-if1
-mul-if1 c = search needs
-
 returns : tie.Need-returns
 returns c =
     let if1 = c .if1 in
     let next = c .before .next in
     room-none (next .result) (next .ensures) (if1 .taken)
-
-next-requires-2 : tie.Need-next-requires-2
-next-requires-2 c κs = search needs
-
-mul-if2 : tie.Need-mul-if2
-mul-if2 c = search needs
 
 returns-2 : tie.Need-returns-2
 returns-2 c =
@@ -45,4 +30,4 @@ returns-3 c =
 pub free-places-spec : {M : Type 1} → statement M
 free-places-spec =
     tie.close
-    (tie.spec mul-next next-requires mul-if1 returns next-requires-2 mul-if2 returns-2 returns-3)
+    (tie.spec (λ c. search needs) (λ c κs. search needs) (λ c. search needs) returns (λ c κs. search needs) (λ c. search needs) returns-2 returns-3)

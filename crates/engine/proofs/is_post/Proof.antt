@@ -5,17 +5,8 @@ use Rattle.engine.proofs.PostTest.{unheld, unposted, numbered}
 use Rattle.engine.proofs.is_post.Statement.{statement}
 use Rattle.engine.proofs.is_post.Tie as tie
 
-number-requires : tie.Need-number-requires
-number-requires c κs = search needs
-
 returns : tie.Need-returns
 returns c = unheld _ _ _ _ (c .before .number .ensures .0 (lit< tt)) (c .if1 .taken)
-
-event-requires : tie.Need-event-requires
-event-requires c κs = search needs
-
-cast-result : tie.Need-cast-result
-cast-result c = search needs
 
 returns-2 : tie.Need-returns-2
 returns-2 c =
@@ -32,4 +23,4 @@ returns-3 c =
     unposted _ _ _ _ (number .ensures .0 (lit< tt)) (if1 .left) (event .ensures) (c .if2 .left)
 
 pub is-post-spec : {M : Type 1} → statement M
-is-post-spec = tie.close (tie.spec number-requires returns event-requires cast-result returns-2 returns-3)
+is-post-spec = tie.close (tie.spec (λ c κs. search needs) returns (λ c κs. search needs) (λ c. search needs) returns-2 returns-3)

@@ -7,15 +7,6 @@ use Rattle.engine.proofs.Opening.{few-stations, narrow, wide, few, many
 use Rattle.engine.proofs.open.Statement.{statement}
 use Rattle.engine.proofs.open.Tie as tie
 
-judge-requires : tie.Need-judge-requires
-judge-requires c κs = search needs
-
-enum-known-a : tie.Need-enum-known-a
-enum-known-a c = search needs
-
-enum-known-a-2 : tie.Need-enum-known-a-2
-enum-known-a-2 c = search needs
-
 returns : tie.Need-returns
 returns c =
     let a = c .before .before .a2 in
@@ -55,9 +46,6 @@ add-if5 c =
     let judge = c .before .before .before .before .before .before .before .judge in
     omega (arith, few-stations _ (judge .ensures) (a .given .1))
 
-mul-if5-2 : tie.Need-mul-if5-2
-mul-if5-2 c = search needs
-
 add-if5-2 : tie.Need-add-if5-2
 add-if5-2 c =
     let a = c .before .before .before .before .before .a2 in
@@ -84,29 +72,8 @@ begin-stations-requires c κs =
     let judge = c .before .before .before .before .before .before .before .before .before .judge in
     few-stations _ (judge .ensures) (a .given .1)
 
-set-header-requires : tie.Need-set-header-requires
-set-header-requires c κs = search needs
-
-set-header-requires-2 : tie.Need-set-header-requires-2
-set-header-requires-2 c κs = search needs
-
-set-header-requires-3 : tie.Need-set-header-requires-3
-set-header-requires-3 c κs = search needs
-
-set-header-requires-4 : tie.Need-set-header-requires-4
-set-header-requires-4 c κs = search needs
-
-cast-clear : tie.Need-cast-clear
-cast-clear c = search needs
-
-clear-requires : tie.Need-clear-requires
-clear-requires c κs = search needs
-
 returns-6 : tie.Need-returns-6
 returns-6 c = unread _ (sym (c .before .a .given .1) ∙ c .before .before .before .judge .ensures)
-
-same-length : tie.Need-same-length
-same-length c = search needs
 
 returns-7 : tie.Need-returns-7
 returns-7 c =
@@ -129,26 +96,26 @@ pub open-spec : {M : Type 1} → statement M
 open-spec =
     tie.close
     (tie.spec
-    judge-requires
-    enum-known-a
-    enum-known-a-2
+    (λ c κs. search needs)
+    (λ c. search needs)
+    (λ c. search needs)
     returns
     returns-2
     returns-3
     returns-4
     mul-if5
     add-if5
-    mul-if5-2
+    (λ c. search needs)
     add-if5-2
     returns-5
     cast-m
     begin-stations-requires
-    set-header-requires
-    set-header-requires-2
-    set-header-requires-3
-    set-header-requires-4
-    cast-clear
-    clear-requires
+    (λ c κs. search needs)
+    (λ c κs. search needs)
+    (λ c κs. search needs)
+    (λ c κs. search needs)
+    (λ c. search needs)
+    (λ c κs. search needs)
     returns-6
-    same-length
+    (λ c. search needs)
     returns-7)

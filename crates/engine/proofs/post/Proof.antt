@@ -2,7 +2,7 @@
 use mathlib.Core.Path.{sym, _∙_}
 use native.Mathlib.Omega.{arith}
 use borrow.Author.Tests.{not-true, not-false}
-use Rattle.queue.proofs.Fitting.{fits-true}
+use Rattle.engine_events.proofs.Fitting.{fits-true}
 use Rattle.engine.proofs.Unfit.{unfit-call}
 use Rattle.engine.proofs.Posting.{station-out, matter-unsuited, time-late, time-early, number-over, none-free, post-done}
 use denote.Ref.{now}
@@ -10,18 +10,6 @@ use lib.ListN.{length}
 use borrow.Author.Needs.{needs}
 use Rattle.engine.proofs.post.Statement.{statement}
 use Rattle.engine.proofs.post.Tie as tie
-
-stations-requires : tie.Need-stations-requires
-stations-requires c κs = search needs
-
-capacity-requires : tie.Need-capacity-requires
-capacity-requires c κs = search needs
-
-fits-requires : tie.Need-fits-requires
-fits-requires c κs = search needs
-
-same-length : tie.Need-same-length
-same-length c = search needs
 
 returns : tie.Need-returns
 returns c =
@@ -31,12 +19,6 @@ returns c =
     let stations = c .before .before .before .before .before .stations in
     unfit-call (stations .ensures) (capacity .ensures) (fits2 .ensures) (not-true _ (if1 .taken))
 
-cast-if2 : tie.Need-cast-if2
-cast-if2 c = search needs
-
-same-length-2 : tie.Need-same-length-2
-same-length-2 c = search needs
-
 returns-2 : tie.Need-returns-2
 returns-2 c =
     let if2 = c .if2 in
@@ -44,17 +26,8 @@ returns-2 c =
     let stations = c .before .before .before .before .before .before .stations in
     station-out (stations .ensures) (capacity .ensures) _ _ _ _ (if2 .taken)
 
-matter-of-requires : tie.Need-matter-of-requires
-matter-of-requires c κs = search needs
-
-enum-known-m : tie.Need-enum-known-m
-enum-known-m c = search needs
-
 enum-told : tie.Need-enum-told
 enum-told c = search needs
-
-same-length-3 : tie.Need-same-length-3
-same-length-3 c = search needs
 
 returns-3 : tie.Need-returns-3
 returns-3 c =
@@ -65,9 +38,6 @@ returns-3 c =
     let stations = c .before .before .before .before .before .before .before .before .before .stations in
     matter-unsuited (stations .ensures) (capacity .ensures) _ _ _ _ (if2 .left) _ (sym (matter-of .ensures) ∙ enum-told .given .1)
 
-same-length-4 : tie.Need-same-length-4
-same-length-4 c = search needs
-
 returns-4 : tie.Need-returns-4
 returns-4 c =
     let if3 = c .if3 in
@@ -77,12 +47,6 @@ returns-4 c =
     let capacity = c .before .before .before .before .before .before .before .before .before .capacity in
     let stations = c .before .before .before .before .before .before .before .before .before .before .before .stations in
     time-late (stations .ensures) (capacity .ensures) _ _ _ _ (if2 .left) _ (sym (matter-of .ensures) ∙ m .given .1) (if3 .taken)
-
-header-requires : tie.Need-header-requires
-header-requires c κs = search needs
-
-same-length-5 : tie.Need-same-length-5
-same-length-5 c = search needs
 
 returns-5 : tie.Need-returns-5
 returns-5 c =
@@ -97,12 +61,6 @@ returns-5 c =
     let stations = back .before .before .stations in
     time-early (stations .ensures) (capacity .ensures) _ _ _ _ (if2 .left) _ (sym (matter-of .ensures) ∙ m .given .1) (if3 .left)
     (header .ensures .0 (omega arith)) (if4 .taken)
-
-header-requires-2 : tie.Need-header-requires-2
-header-requires-2 c κs = search needs
-
-same-length-6 : tie.Need-same-length-6
-same-length-6 c = search needs
 
 returns-6 : tie.Need-returns-6
 returns-6 c =
@@ -130,9 +88,6 @@ full-requires c κs =
     let args = back .before .before .before .before .before .before .before .before .before .args in
     fits-true (stations .result) (capacity .result) (length (now (args .b))) (fits2 .ensures) (not-false _ (if1 .left)) .0
 
-same-length-7 : tie.Need-same-length-7
-same-length-7 c = search needs
-
 returns-7 : tie.Need-returns-7
 returns-7 c =
     let if6 = c .if6 in
@@ -150,24 +105,6 @@ returns-7 c =
     let stations = back .before .before .before .before .before .before .before .before .stations in
     none-free (stations .ensures) (capacity .ensures) _ _ _ _ (if2 .left) _ (sym (matter-of .ensures) ∙ m .given .1) (if3 .left)
     (header .ensures .0 (omega arith)) (if4 .left) (header2 .ensures .0 (omega arith)) (if5 .left) (rw (if6 .taken) at (full .ensures))
-
-cast-t37 : tie.Need-cast-t37
-cast-t37 c = search needs
-
-cast-t38 : tie.Need-cast-t38
-cast-t38 c = search needs
-
-add-requires : tie.Need-add-requires
-add-requires c κs = search needs
-
-add-set-header : tie.Need-add-set-header
-add-set-header c = search needs
-
-set-header-requires : tie.Need-set-header-requires
-set-header-requires c κs = search needs
-
-same-length-8 : tie.Need-same-length-8
-same-length-8 c = search needs
 
 returns-8 : tie.Need-returns-8
 returns-8 c =
@@ -195,34 +132,34 @@ pub post-spec : {M : Type 1} → statement M
 post-spec =
     tie.close
     (tie.spec
-    stations-requires
-    capacity-requires
-    fits-requires
-    same-length
+    (λ c κs. search needs)
+    (λ c κs. search needs)
+    (λ c κs. search needs)
+    (λ c. search needs)
     returns
-    cast-if2
-    same-length-2
+    (λ c. search needs)
+    (λ c. search needs)
     returns-2
-    matter-of-requires
-    enum-known-m
+    (λ c κs. search needs)
+    (λ c. search needs)
     enum-told
-    same-length-3
+    (λ c. search needs)
     returns-3
-    same-length-4
+    (λ c. search needs)
     returns-4
-    header-requires
-    same-length-5
+    (λ c κs. search needs)
+    (λ c. search needs)
     returns-5
-    header-requires-2
-    same-length-6
+    (λ c κs. search needs)
+    (λ c. search needs)
     returns-6
     full-requires
-    same-length-7
+    (λ c. search needs)
     returns-7
-    cast-t37
-    cast-t38
-    add-requires
-    add-set-header
-    set-header-requires
-    same-length-8
+    (λ c. search needs)
+    (λ c. search needs)
+    (λ c κs. search needs)
+    (λ c. search needs)
+    (λ c κs. search needs)
+    (λ c. search needs)
     returns-8)

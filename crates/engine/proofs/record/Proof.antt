@@ -4,36 +4,21 @@ use borrow.Author.Needs.{needs}
 use borrow.Author.Tests.{not-true, not-false}
 use denote.Ref.{now}
 use lib.ListN.{length}
-use Rattle.queue.proofs.Fitting.{fits-true}
+use Rattle.engine_events.proofs.Fitting.{fits-true}
 use Rattle.engine.proofs.Recording.{other-station, none-run, first-run}
 use Rattle.engine.proofs.Unfit.{unfit-call}
 use Rattle.engine.proofs.record.Statement.{statement}
 use Rattle.engine.proofs.record.Tie as tie
-
-stations-requires : tie.Need-stations-requires
-stations-requires c κs = search needs
-
-capacity-requires : tie.Need-capacity-requires
-capacity-requires c κs = search needs
-
-fits-requires : tie.Need-fits-requires
-fits-requires c κs = search needs
 
 returns : tie.Need-returns
 returns c =
     let stations = c .before .before .before .stations in
     unfit-call (stations .ensures) (c .before .before .capacity .ensures) (c .before .fits2 .ensures) (not-true _ (c .if1 .taken))
 
-cast-if2 : tie.Need-cast-if2
-cast-if2 c = search needs
-
 returns-2 : tie.Need-returns-2
 returns-2 c =
     let stations = c .before .before .before .before .stations in
     other-station (stations .ensures) (c .before .before .before .capacity .ensures) _ (c .if2 .taken)
-
-cast-s : tie.Need-cast-s
-cast-s c = search needs
 
 add-next : tie.Need-add-next
 add-next c =
@@ -43,9 +28,6 @@ add-next c =
     let stations = c .before .before .before .before .stations in
     omega (arith, fits-true (stations .result) (capacity .result) (length (now (args .b))) (fits .ensures) (not-false _ (c .before .if1 .left)))
 
-next-requires : tie.Need-next-requires
-next-requires c κs = search needs
-
 add-if3 : tie.Need-add-if3
 add-if3 c =
     let fits = c .before .before .before .fits2 in
@@ -54,18 +36,12 @@ add-if3 c =
     let stations = c .before .before .before .before .before .stations in
     omega (arith, fits-true (stations .result) (capacity .result) (length (now (args .b))) (fits .ensures) (not-false _ (c .before .before .if1 .left)))
 
-state-requires : tie.Need-state-requires
-state-requires c κs = search needs
-
 returns-3 : tie.Need-returns-3
 returns-3 c =
     let capacity = c .before .before .before .before .before .before .capacity in
     let stations = c .before .before .before .before .before .before .before .stations in
     none-run (stations .ensures) (capacity .ensures) _ (c .before .before .before .if2 .left) (c .before .before .next .ensures)
     (c .before .if3 .taken) (c .state .ensures)
-
-saved-requires : tie.Need-saved-requires
-saved-requires c κs = search needs
 
 returns-4 : tie.Need-returns-4
 returns-4 c =
@@ -78,17 +54,17 @@ pub record-spec : {M : Type 1} → statement M
 record-spec =
     tie.close
     (tie.spec
-    stations-requires
-    capacity-requires
-    fits-requires
+    (λ c κs. search needs)
+    (λ c κs. search needs)
+    (λ c κs. search needs)
     returns
-    cast-if2
+    (λ c. search needs)
     returns-2
-    cast-s
+    (λ c. search needs)
     add-next
-    next-requires
+    (λ c κs. search needs)
     add-if3
-    state-requires
+    (λ c κs. search needs)
     returns-3
-    saved-requires
+    (λ c κs. search needs)
     returns-4)

@@ -3,23 +3,11 @@ use borrow.Author.Needs.{needs}
 use borrow.Author.Tests.{not-true, not-false}
 use denote.Ref.{now}
 use lib.ListN.{length}
-use Rattle.queue.proofs.Fitting.{fits-true}
+use Rattle.engine_events.proofs.Fitting.{fits-true}
 use Rattle.engine.proofs.Unfit.{unfit-call}
 use Rattle.engine.proofs.Retracting.{unknown-post, removed-post}
 use Rattle.engine.proofs.retract.Statement.{statement}
 use Rattle.engine.proofs.retract.Tie as tie
-
-stations-requires : tie.Need-stations-requires
-stations-requires c κs = search needs
-
-capacity-requires : tie.Need-capacity-requires
-capacity-requires c κs = search needs
-
-fits-requires : tie.Need-fits-requires
-fits-requires c κs = search needs
-
-same-length : tie.Need-same-length
-same-length c = search needs
 
 returns : tie.Need-returns
 returns c =
@@ -34,20 +22,11 @@ find-post-requires c κs =
     let w = fits-true _ _ (length (now (args .b))) (fits .ensures) (not-false _ (c .before .if1 .left)) in
     (w .0, w .1)
 
-same-length-2 : tie.Need-same-length-2
-same-length-2 c = search needs
-
 returns-2 : tie.Need-returns-2
 returns-2 c =
     let capacity = c .before .before .before .before .before .before .capacity in
     let stations = c .before .before .before .before .before .before .before .before .stations in
     unknown-post (stations .ensures) (capacity .ensures) (c .before .find-post .ensures) (c .if2 .taken)
-
-remove-requires : tie.Need-remove-requires
-remove-requires c κs = search needs
-
-same-length-3 : tie.Need-same-length-3
-same-length-3 c = search needs
 
 returns-3 : tie.Need-returns-3
 returns-3 c =
@@ -62,14 +41,14 @@ pub retract-spec : {M : Type 1} → statement M
 retract-spec =
     tie.close
     (tie.spec
-    stations-requires
-    capacity-requires
-    fits-requires
-    same-length
+    (λ c κs. search needs)
+    (λ c κs. search needs)
+    (λ c κs. search needs)
+    (λ c. search needs)
     returns
     find-post-requires
-    same-length-2
+    (λ c. search needs)
     returns-2
-    remove-requires
-    same-length-3
+    (λ c κs. search needs)
+    (λ c. search needs)
     returns-3)

@@ -1,7 +1,7 @@
 -- The tests are those of the rules, in their order; then the sends are added and the event is run.
 use native.Mathlib.Omega.{arith}
 use borrow.Author.Tests.{not-true}
-use Rattle.rollback.proofs.Behinds.{behind-on}
+use Rattle.engine_rollback.proofs.Behinds.{behind-on}
 use Rattle.engine.proofs.Outcomes.{two-sends}
 use Rattle.engine.proofs.Running.{reads-of}
 use Rattle.engine.proofs.RunCalls.{too-short, no-station, none-waits, counts-pass, places-few, run-done}
@@ -9,29 +9,11 @@ use borrow.Author.Needs.{needs}
 use Rattle.engine.proofs.run_at.Statement.{statement}
 use Rattle.engine.proofs.run_at.Tie as tie
 
-fits-requires : tie.Need-fits-requires
-fits-requires c κs = search needs
-
-same-length : tie.Need-same-length
-same-length c = search needs
-
 returns : tie.Need-returns
 returns c = too-short (c .before .fits2 .ensures) (not-true _ (c .if1 .taken))
 
-same-length-2 : tie.Need-same-length-2
-same-length-2 c = search needs
-
 returns-2 : tie.Need-returns-2
 returns-2 c = no-station (c .if2 .taken)
-
-next-requires : tie.Need-next-requires
-next-requires c κs = search needs
-
-slot-in-requires : tie.Need-slot-in-requires
-slot-in-requires c κs = search needs
-
-same-length-3 : tie.Need-same-length-3
-same-length-3 c = search needs
 
 returns-3 : tie.Need-returns-3
 returns-3 c =
@@ -39,27 +21,6 @@ returns-3 c =
     let next = c .before .before .before .next in
     let if2 = c .before .before .before .before .before .if2 in
     none-waits (if2 .left) (next .ensures) (slot-in .ensures) (c .if3 .taken)
-
-event-requires : tie.Need-event-requires
-event-requires c κs = search needs
-
-config-requires : tie.Need-config-requires
-config-requires c κs = search needs
-
-state-requires : tie.Need-state-requires
-state-requires c κs = search needs
-
-run-event-requires : tie.Need-run-event-requires
-run-event-requires c κs = search needs
-
-enum-known-effect : tie.Need-enum-known-effect
-enum-known-effect c = search needs
-
-enum-told : tie.Need-enum-told
-enum-told c = search needs
-
-same-length-4 : tie.Need-same-length-4
-same-length-4 c = search needs
 
 returns-4 : tie.Need-returns-4
 returns-4 c =
@@ -82,17 +43,8 @@ free-places-requires c κs =
     let slot-in = back .before .slot-in in
     slot-in .ensures .sound (if3 .left) .0 .stations
 
-sends-requires : tie.Need-sends-requires
-sends-requires c κs = search needs
-
-sends-requires-2 : tie.Need-sends-requires-2
-sends-requires-2 c κs = search needs
-
 add-if4 : tie.Need-add-if4
 add-if4 c = omega (arith, two-sends (c .before .before .before .before .before .before .effect .given .1) (c .before .sends .ensures) (c .sends2 .ensures))
-
-same-length-5 : tie.Need-same-length-5
-same-length-5 c = search needs
 
 returns-5 : tie.Need-returns-5
 returns-5 c =
@@ -112,15 +64,6 @@ returns-5 c =
     places-few (reads-of (if2 .left) (next .ensures) (slot-in .ensures) (if3 .left) (event .ensures) (config .ensures) (state .ensures) (run-event .ensures)) _
     (effect .given .1) (free-places .ensures) (omega (arith, c .if4 .taken, sends .ensures, sends2 .ensures))
 
-add-send-requires : tie.Need-add-send-requires
-add-send-requires c κs = search needs
-
-add-send-requires-2 : tie.Need-add-send-requires-2
-add-send-requires-2 c κs = search needs
-
-run-requires : tie.Need-run-requires
-run-requires c κs = search needs
-
 add-t50 : tie.Need-add-t50
 add-t50 c =
     let back = c .before .before .before .before .before .before .before .before .before .before .before .before in
@@ -130,9 +73,6 @@ add-t50 c =
     let if3 = back2 .before .before .before .before .before .before .if3 in
     let slot-in = back2 .before .before .before .before .before .before .before .slot-in in
     let slot = slot-in .ensures .sound (if3 .left) .0 in omega (arith, add-send .ensures .1 .0, add-send2 .ensures .1 .0, slot .capacity)
-
-same-length-6 : tie.Need-same-length-6
-same-length-6 c = search needs
 
 returns-6 : tie.Need-returns-6
 returns-6 c =
@@ -165,32 +105,32 @@ pub run-at-spec : {M : Type 1} → statement M
 run-at-spec =
     tie.close
     (tie.spec
-    fits-requires
-    same-length
+    (λ c κs. search needs)
+    (λ c. search needs)
     returns
-    same-length-2
+    (λ c. search needs)
     returns-2
-    next-requires
-    slot-in-requires
-    same-length-3
+    (λ c κs. search needs)
+    (λ c κs. search needs)
+    (λ c. search needs)
     returns-3
-    event-requires
-    config-requires
-    state-requires
-    run-event-requires
-    enum-known-effect
-    enum-told
-    same-length-4
+    (λ c κs. search needs)
+    (λ c κs. search needs)
+    (λ c κs. search needs)
+    (λ c κs. search needs)
+    (λ c. search needs)
+    (λ c. search needs)
+    (λ c. search needs)
     returns-4
     free-places-requires
-    sends-requires
-    sends-requires-2
+    (λ c κs. search needs)
+    (λ c κs. search needs)
     add-if4
-    same-length-5
+    (λ c. search needs)
     returns-5
-    add-send-requires
-    add-send-requires-2
-    run-requires
+    (λ c κs. search needs)
+    (λ c κs. search needs)
+    (λ c κs. search needs)
     add-t50
-    same-length-6
+    (λ c. search needs)
     returns-6)

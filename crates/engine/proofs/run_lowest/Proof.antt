@@ -6,36 +6,12 @@ use borrow.Author.Needs.{needs}
 use Rattle.engine.proofs.run_lowest.Statement.{statement}
 use Rattle.engine.proofs.run_lowest.Tie as tie
 
-stations-requires : tie.Need-stations-requires
-stations-requires c κs = search needs
-
-capacity-requires : tie.Need-capacity-requires
-capacity-requires c κs = search needs
-
-fits-requires : tie.Need-fits-requires
-fits-requires c κs = search needs
-
-same-length : tie.Need-same-length
-same-length c = search needs
-
 returns : tie.Need-returns
 returns c =
     let fits2 = c .before .fits2 in
     let capacity = c .before .before .before .capacity in
     let stations = c .before .before .before .before .before .stations in
     unfit-call (stations .ensures) (capacity .ensures) (fits2 .ensures) (not-true _ (c .if1 .taken))
-
-lowest-requires : tie.Need-lowest-requires
-lowest-requires c κs = search needs
-
-enum-known-station : tie.Need-enum-known-station
-enum-known-station c = search needs
-
-enum-told : tie.Need-enum-told
-enum-told c = search needs
-
-same-length-2 : tie.Need-same-length-2
-same-length-2 c = search needs
 
 returns-2 : tie.Need-returns-2
 returns-2 c =
@@ -44,9 +20,6 @@ returns-2 c =
     let stations = c .before .before .before .before .before .before .before .before .before .stations in
     none-lowest (stations .ensures) (capacity .ensures) (lowest .ensures) (c .enum-told .given .1)
 
-same-length-3 : tie.Need-same-length-3
-same-length-3 c = search needs
-
 returns-3 : tie.Need-returns-3
 returns-3 c =
     let station = c .before .before .station in
@@ -54,15 +27,6 @@ returns-3 c =
     let capacity = c .before .before .before .before .before .before .before .before .before .capacity in
     let stations = c .before .before .before .before .before .before .before .before .before .before .before .stations in
     far-lowest (stations .ensures) (capacity .ensures) (lowest .ensures) _ (station .given .1) (c .if2 .taken)
-
-cast-run-at : tie.Need-cast-run-at
-cast-run-at c = search needs
-
-run-at-requires : tie.Need-run-at-requires
-run-at-requires c κs = search needs
-
-same-length-4 : tie.Need-same-length-4
-same-length-4 c = search needs
 
 returns-4 : tie.Need-returns-4
 returns-4 c =
@@ -78,19 +42,19 @@ pub run-lowest-spec : {M : Type 1} → statement M
 run-lowest-spec =
     tie.close
     (tie.spec
-    stations-requires
-    capacity-requires
-    fits-requires
-    same-length
+    (λ c κs. search needs)
+    (λ c κs. search needs)
+    (λ c κs. search needs)
+    (λ c. search needs)
     returns
-    lowest-requires
-    enum-known-station
-    enum-told
-    same-length-2
+    (λ c κs. search needs)
+    (λ c. search needs)
+    (λ c. search needs)
+    (λ c. search needs)
     returns-2
-    same-length-3
+    (λ c. search needs)
     returns-3
-    cast-run-at
-    run-at-requires
-    same-length-4
+    (λ c. search needs)
+    (λ c κs. search needs)
+    (λ c. search needs)
     returns-4)

@@ -4,15 +4,6 @@ use Rattle.engine.proofs.Waiting.{none-earlier, some-earlier}
 use Rattle.engine.proofs.unrun_before.Statement.{statement}
 use Rattle.engine.proofs.unrun_before.Tie as tie
 
-lowest-requires : tie.Need-lowest-requires
-lowest-requires c κs = search needs
-
-enum-known-t : tie.Need-enum-known-t
-enum-known-t c = search needs
-
-enum-told : tie.Need-enum-told
-enum-told c = search needs
-
 returns : tie.Need-returns
 returns c =
     let l = c .before .before in
@@ -25,4 +16,4 @@ returns-2 c =
     some-earlier (l .before .before .args .time) (l .lowest .ensures) (t .0 .0) (t .0 .1 .0) (t .1)
 
 pub unrun-before-spec : {M : Type 1} → statement M
-unrun-before-spec = tie.close (tie.spec lowest-requires enum-known-t enum-told returns returns-2)
+unrun-before-spec = tie.close (tie.spec (λ c κs. search needs) (λ c. search needs) (λ c. search needs) returns returns-2)

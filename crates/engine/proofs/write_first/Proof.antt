@@ -4,9 +4,9 @@ use Prim.Native.Nat.{_-_, _≤_}
 use native.Mathlib.Omega.{arith}
 use borrow.Author.Needs.{needs}
 use lib.ListN.{length}
-use Rattle.store.proofs.RecordLaws.{length-event}
-use Rattle.queue.specs.Steps.{Behind}
-use Rattle.queue.proofs.Behinds.{behind-same, behind-on}
+use Rattle.engine_rows.proofs.RecordLaws.{length-event}
+use Rattle.engine_events.specs.Promises.{Behind}
+use Rattle.engine_events.proofs.Behinds.{behind-same, behind-on}
 use Rattle.engine.proofs.FoundSlots.{no-slot, slot-event}
 use Rattle.engine.proofs.Writing.{Writing, writing-start, writing-on, writing-stops, writing-ends}
 use Rattle.engine.proofs.write_first.Statement.{statement}
@@ -23,18 +23,6 @@ loop-holds c =
     let args = c .before .before .args in
     (omega arith, refl, behind-same (args .b .now), writing-start (args .n) (args .c) (args .b .now) (args .count) (args .out .now))
 
-next-logged-requires : tie.Need-next-logged-requires Inv-loop μ-loop
-next-logged-requires c κs = search needs
-
-slot-in-requires : tie.Need-slot-in-requires Inv-loop μ-loop
-slot-in-requires c κs = search needs
-
-same-length : tie.Need-same-length Inv-loop μ-loop
-same-length c = search needs
-
-same-length-2 : tie.Need-same-length-2 Inv-loop μ-loop
-same-length-2 c = search needs
-
 returns : tie.Need-returns Inv-loop μ-loop
 returns c =
     let l = c .before .before .before .before .before .before in
@@ -46,20 +34,11 @@ returns c =
       writing-stops (args .n) (args .c) (args .b .now) (args .count) (args .out .now) (inv .3) more (c .before .before .before .next-logged .ensures) none,
     )
 
-event-requires : tie.Need-event-requires Inv-loop μ-loop
-event-requires c κs = search needs
-
 cast-write-event : tie.Need-cast-write-event Inv-loop μ-loop
 cast-write-event c = omega arith
 
 mul-write-event : tie.Need-mul-write-event Inv-loop μ-loop
 mul-write-event c = omega arith
-
-write-event-requires : tie.Need-write-event-requires Inv-loop μ-loop
-write-event-requires c κs = search needs
-
-release-requires : tie.Need-release-requires Inv-loop μ-loop
-release-requires c κs = search needs
 
 add-k : tie.Need-add-k Inv-loop μ-loop
 add-k c = omega arith
@@ -87,12 +66,6 @@ loop-again c =
           (gone .1),
     )
 
-same-length-3 : tie.Need-same-length-3 Inv-loop μ-loop
-same-length-3 c = search needs
-
-same-length-4 : tie.Need-same-length-4 Inv-loop μ-loop
-same-length-4 c = search needs
-
 returns-2 : tie.Need-returns-2 Inv-loop μ-loop
 returns-2 c =
     let args = c .before .before .before .before .args in
@@ -106,19 +79,19 @@ write-first-spec =
     Inv-loop
     μ-loop
     loop-holds
-    next-logged-requires
-    slot-in-requires
-    same-length
-    same-length-2
+    (λ c κs. search needs)
+    (λ c κs. search needs)
+    (λ c. search needs)
+    (λ c. search needs)
     returns
-    event-requires
+    (λ c κs. search needs)
     cast-write-event
     mul-write-event
-    write-event-requires
-    release-requires
+    (λ c κs. search needs)
+    (λ c κs. search needs)
     add-k
     loop-less
     loop-again
-    same-length-3
-    same-length-4
+    (λ c. search needs)
+    (λ c. search needs)
     returns-2)

@@ -7,12 +7,6 @@ use borrow.Author.Needs.{needs}
 use Rattle.line.proofs.matter_of.Statement.{statement}
 use Rattle.line.proofs.matter_of.Tie as tie
 
-cast-t12 : tie.Need-cast-t12
-cast-t12 c = search needs
-
-cast-t17 : tie.Need-cast-t17
-cast-t17 c = search needs
-
 returns : tie.Need-returns
 unfolding matterOf
 returns c = rw (c .before .match .keys1, c .if1 .taken)
@@ -46,4 +40,4 @@ unfolding matterOf
 returns-8 c = let r = c .match .rest in rw (ne-eqb _ 1 (r .0 .0 .0 .1), ne-eqb _ 2 (r .0 .0 .1), ne-eqb _ 3 (r .0 .1))
 
 pub matter-of-spec : {M : Type 1} → statement M
-matter-of-spec = tie.close (tie.spec cast-t12 cast-t17 returns returns-2 returns-3 returns-4 returns-5 returns-6 returns-7 returns-8)
+matter-of-spec = tie.close (tie.spec (λ c. search needs) (λ c. search needs) returns returns-2 returns-3 returns-4 returns-5 returns-6 returns-7 returns-8)

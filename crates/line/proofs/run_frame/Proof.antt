@@ -6,15 +6,6 @@ use borrow.Author.Needs.{needs}
 use Rattle.line.proofs.run_frame.Statement.{statement}
 use Rattle.line.proofs.run_frame.Tie as tie
 
-drawn-requires : tie.Need-drawn-requires
-drawn-requires c κs = search needs
-
-run-lost-requires : tie.Need-run-lost-requires
-run-lost-requires c κs = search needs
-
-run-heard-requires : tie.Need-run-heard-requires
-run-heard-requires c κs = search needs
-
 returns : tie.Need-returns
 unfolding runFrame
 returns c = rw (← c .before .before .before .drawn .ensures, le-leb (c .before .before .before .drawn .result) (c .before .before .before .before .args .c .noise) (omega arith)) (c .run-lost .ensures)
@@ -24,4 +15,4 @@ unfolding runFrame
 returns-2 c = rw (← c .before .before .before .drawn .ensures, lt-leb (c .before .before .before .drawn .result) (c .before .before .before .before .args .c .noise) (omega arith)) (c .run-heard .ensures)
 
 pub run-frame-spec : {M : Type 1} → statement M
-run-frame-spec = tie.close (tie.spec drawn-requires run-lost-requires run-heard-requires returns returns-2)
+run-frame-spec = tie.close (tie.spec (λ c κs. search needs) (λ c κs. search needs) (λ c κs. search needs) returns returns-2)

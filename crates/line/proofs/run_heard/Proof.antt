@@ -12,15 +12,6 @@ returns : tie.Need-returns
 unfolding silent drawnState hear
 returns c = pass-stays _ _ _ _ _ (passed _ (λ h l s. omega arith))
 
-add-t9 : tie.Need-add-t9
-add-t9 c = search needs
-
-send-requires : tie.Need-send-requires
-send-requires c κs = search needs
-
-silent-requires : tie.Need-silent-requires
-silent-requires c κs = search needs
-
 returns-2 : tie.Need-returns-2
 unfolding drawnState hear pass
 returns-2 c = rw (ne-eqb _ 0 (c .before .if2 .taken), ← c .before .before .before .before .before .pre, ← add-one _) (c .send .ensures .0)
@@ -30,4 +21,4 @@ unfolding drawnState hear pass
 returns-3 c = rw (eq-eqb _ 0 (c .before .if2 .left), ← c .before .before .before .before .before .pre, ← add-one _) (c .silent .ensures .0)
 
 pub run-heard-spec : {M : Type 1} → statement M
-run-heard-spec = tie.close (tie.spec returns add-t9 send-requires silent-requires returns-2 returns-3)
+run-heard-spec = tie.close (tie.spec returns (λ c. search needs) (λ c κs. search needs) (λ c κs. search needs) returns-2 returns-3)

@@ -11,15 +11,9 @@ returns : tie.Need-returns
 unfolding silent drawnState lose
 returns c = stays _ _ _ _ _ (passed _ (λ h l s. omega arith))
 
-add-t9 : tie.Need-add-t9
-add-t9 c = search needs
-
-send-requires : tie.Need-send-requires
-send-requires c κs = search needs
-
 returns-2 : tie.Need-returns-2
 unfolding drawnState lose
 returns-2 c = rw (← c .before .before .before .before .pre, ← add-one _) (c .send .ensures .0)
 
 pub run-lost-spec : {M : Type 1} → statement M
-run-lost-spec = tie.close (tie.spec returns add-t9 send-requires returns-2)
+run-lost-spec = tie.close (tie.spec returns (λ c. search needs) (λ c κs. search needs) returns-2)

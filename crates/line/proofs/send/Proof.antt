@@ -8,14 +8,8 @@ use borrow.Author.Needs.{needs}
 use Rattle.line.proofs.send.Statement.{statement}
 use Rattle.line.proofs.send.Tie as tie
 
-silent-requires : tie.Need-silent-requires
-silent-requires c κs = search needs
-
 returns : tie.Need-returns
 returns c = (late _ _ _ _ _ (omega arith) (c .silent .ensures .0), c .silent .ensures .1)
-
-silent-requires-2 : tie.Need-silent-requires-2
-silent-requires-2 c κs = search needs
 
 returns-2 : tie.Need-returns-2
 returns-2 c = (late _ _ _ _ _ (omega arith) (c .silent2 .ensures .0), c .silent2 .ensures .1)
@@ -24,15 +18,9 @@ returns-3 : tie.Need-returns-3
 unfolding silent
 returns-3 c = (timely _ _ _ _ _ (omega arith) (passed _ (λ h l s. omega arith)), λ e h. cc)
 
-add-t10 : tie.Need-add-t10
-add-t10 c = search needs
-
-add-t9 : tie.Need-add-t9
-add-t9 c = search needs
-
 returns-4 : tie.Need-returns-4
 unfolding silent
 returns-4 c = (timely _ _ _ _ _ (omega arith) (rw add-one (sym (kept _ (omega arith) (omega arith) (omega arith)))), λ e h. cc)
 
 pub send-spec : {M : Type 1} → statement M
-send-spec = tie.close (tie.spec silent-requires returns silent-requires-2 returns-2 returns-3 add-t10 add-t9 returns-4)
+send-spec = tie.close (tie.spec (λ c κs. search needs) returns (λ c κs. search needs) returns-2 returns-3 (λ c. search needs) (λ c. search needs) returns-4)

@@ -10,18 +10,9 @@ use borrow.Author.Needs.{needs}
 use Rattle.plan.proofs.judge.Statement.{statement}
 use Rattle.plan.proofs.judge.Tie as tie
 
-shape-wrong-requires : tie.Need-shape-wrong-requires
-shape-wrong-requires c κs = search needs
-
 returns : tie.Need-returns
 unfolding judging
 returns c = rw (sym (c .before .shape-wrong .ensures) ∙ c .if1 .taken)
-
-load16-requires : tie.Need-load16-requires
-load16-requires c κs = search needs
-
-lowest-pair-requires : tie.Need-lowest-pair-requires
-lowest-pair-requires c κs = search needs
 
 returns-2 : tie.Need-returns-2
 returns-2 c =
@@ -31,9 +22,6 @@ returns-2 c =
       ← c .before .lowest-pair .ensures,
       lt-ltb _ _ (c .if2 .taken),
     )
-
-begin-of-requires : tie.Need-begin-of-requires
-begin-of-requires c κs = search needs
 
 returns-3 : tie.Need-returns-3
 returns-3 c =
@@ -45,9 +33,6 @@ returns-3 c =
       ← c .before .begin-of .ensures,
       lt-ltb _ _ (c .if3 .taken),
     )
-
-lowest-field-requires : tie.Need-lowest-field-requires
-lowest-field-requires c κs = search needs
 
 returns-4 : tie.Need-returns-4
 returns-4 c =
@@ -84,9 +69,6 @@ returns-5 c =
       lt-ltb _ _ (c .if5 .taken),
     )
 
-cast-t10 : tie.Need-cast-t10
-cast-t10 c = search needs
-
 returns-6 : tie.Need-returns-6
 returns-6 c =
     rw (
@@ -106,16 +88,16 @@ pub judge-spec : {M : Type 1} → statement M
 judge-spec =
     tie.close
     (tie.spec
-    shape-wrong-requires
+    (λ c κs. search needs)
     returns
-    load16-requires
-    lowest-pair-requires
+    (λ c κs. search needs)
+    (λ c κs. search needs)
     returns-2
-    begin-of-requires
+    (λ c κs. search needs)
     returns-3
-    lowest-field-requires
+    (λ c κs. search needs)
     returns-4
     lowest-name-requires
     returns-5
-    cast-t10
+    (λ c. search needs)
     returns-6)

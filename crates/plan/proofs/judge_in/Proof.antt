@@ -6,15 +6,6 @@ use borrow.Author.Needs.{needs}
 use Rattle.plan.proofs.judge_in.Statement.{statement}
 use Rattle.plan.proofs.judge_in.Tie as tie
 
-judge-requires : tie.Need-judge-requires
-judge-requires c κs = search needs
-
-enum-known-a : tie.Need-enum-known-a
-enum-known-a c = search needs
-
-enum-told : tie.Need-enum-told
-enum-told c = search needs
-
 returns : tie.Need-returns
 unfolding reading
 returns c = rw (← sym (c .before .before .a .given .1) ∙ c .before .before .before .before .judge .ensures, lt-ltb _ _ (c .if1 .taken))
@@ -29,4 +20,4 @@ returns-3 c = c .enum-told .given .1 ∙ ap (inRoom (c .before .before .before .
 
 pub judge-in-spec : {M : Type 1} → statement M
 judge-in-spec =
-    tie.close (tie.spec judge-requires enum-known-a enum-told returns returns-2 returns-3)
+    tie.close (tie.spec (λ c κs. search needs) (λ c. search needs) (λ c. search needs) returns returns-2 returns-3)

@@ -19,12 +19,6 @@ abbrev μ-loop : tie.MeasureT-loop
 loop-holds : tie.Need-loop-holds Inv-loop μ-loop
 loop-holds c = (omega arith, lowest-zero _)
 
-config-at-requires : tie.Need-config-at-requires Inv-loop μ-loop
-config-at-requires c κs = search needs
-
-number-out-requires : tie.Need-number-out-requires Inv-loop μ-loop
-number-out-requires c κs = search needs
-
 returns : tie.Need-returns Inv-loop μ-loop
 returns c = lowest-found _ _ _ (c .before .before .before .before .loop .inv .1) (field-is _ _ (c .before .before .config-at .ensures) (c .before .number-out .ensures) ∙ c .if1 .taken) (omega arith)
 
@@ -47,8 +41,8 @@ lowest-field-spec =
     Inv-loop
     μ-loop
     loop-holds
-    config-at-requires
-    number-out-requires
+    (λ c κs. search needs)
+    (λ c κs. search needs)
     returns
     add-k
     loop-less

@@ -25,9 +25,6 @@ cast-station-at c = omega arith
 station-at-requires : tie.Need-station-at-requires Inv-loop μ-loop
 station-at-requires c κs = (omega arith, lowest-none _ (c .before .before .before .args .n) _ (c .before .before .before .pre .1) (omega arith))
 
-name-out-requires : tie.Need-name-out-requires Inv-loop μ-loop
-name-out-requires c κs = search needs
-
 returns : tie.Need-returns Inv-loop μ-loop
 returns c = lowest-found _ _ _ (c .before .before .before .before .loop .inv .1) (name-is _ _ (c .before .before .station-at .ensures) (c .before .name-out .ensures) ∙ c .if1 .taken) (omega arith)
 
@@ -52,7 +49,7 @@ lowest-name-spec =
     loop-holds
     cast-station-at
     station-at-requires
-    name-out-requires
+    (λ c κs. search needs)
     returns
     add-k
     loop-less

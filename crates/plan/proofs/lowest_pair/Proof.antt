@@ -18,9 +18,6 @@ abbrev μ-loop : tie.MeasureT-loop
 loop-holds : tie.Need-loop-holds Inv-loop μ-loop
 loop-holds c = (omega arith, lowest-zero _)
 
-pair-wrong-requires : tie.Need-pair-wrong-requires Inv-loop μ-loop
-pair-wrong-requires c κs = search needs
-
 returns : tie.Need-returns Inv-loop μ-loop
 returns c = lowest-found _ _ _ (c .before .before .before .loop .inv .1) (sym (c .before .pair-wrong .ensures) ∙ c .if1 .taken) (omega arith)
 
@@ -43,7 +40,7 @@ lowest-pair-spec =
     Inv-loop
     μ-loop
     loop-holds
-    pair-wrong-requires
+    (λ c κs. search needs)
     returns
     add-k
     loop-less

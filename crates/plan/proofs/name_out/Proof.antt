@@ -27,9 +27,6 @@ slice-aggregate-any-out c =
     let l = c .before .before .before .args .s .name in
     sym (length-take-le _ l (within l _ (c .before .before .before .good .0 .1 .1 .1 .0 .1 .0 .1) (c .before .before .if1 .left)))
 
-any-out-requires : tie.Need-any-out-requires
-any-out-requires c κs = search needs
-
 returns-2 : tie.Need-returns-2
 unfolding nameOut
 returns-2 c = simp (le-ltb _ _ (c .before .before .before .if1 .left)) (c .any-out .ensures)
@@ -37,4 +34,4 @@ returns-2 c = simp (le-ltb _ _ (c .before .before .before .if1 .left)) (c .any-o
 pub name-out-spec : {M : Type 1} → statement M
 name-out-spec =
     tie.close
-    (tie.spec returns array-share-prefix-name slice-aggregate-any-out any-out-requires returns-2)
+    (tie.spec returns array-share-prefix-name slice-aggregate-any-out (λ c κs. search needs) returns-2)

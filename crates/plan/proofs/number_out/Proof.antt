@@ -6,9 +6,6 @@ use borrow.Author.Needs.{needs}
 use Rattle.plan.proofs.number_out.Statement.{statement}
 use Rattle.plan.proofs.number_out.Tie as tie
 
-parent-out-requires : tie.Need-parent-out-requires
-parent-out-requires c κs = search needs
-
 returns : tie.Need-returns
 unfolding numberOut
 returns c = simp (sym (c .before .parent-out .ensures) ∙ c .if1 .taken)
@@ -75,7 +72,7 @@ pub number-out-spec : {M : Type 1} → statement M
 number-out-spec =
     tie.close
     (tie.spec
-    parent-out-requires
+    (λ c κs. search needs)
     returns
     returns-2
     returns-3

@@ -5,15 +5,6 @@ use borrow.Author.Needs.{needs}
 use Rattle.plan.proofs.pair_wrong.Statement.{statement}
 use Rattle.plan.proofs.pair_wrong.Tie as tie
 
-offset-of-requires : tie.Need-offset-of-requires
-offset-of-requires c κs = search needs
-
-length-of-requires : tie.Need-length-of-requires
-length-of-requires c κs = search needs
-
-begin-of-requires : tie.Need-begin-of-requires
-begin-of-requires c κs = search needs
-
 returns : tie.Need-returns
 unfolding pairWrong
 returns c = rw (← c .before .before .before .offset-of .ensures .0, ← c .before .begin-of .ensures) (simp (ne-eqb _ _ (c .if1 .taken)))
@@ -38,9 +29,6 @@ returns-3 c =
     )
     (simp (eq-eqb _ _ (c .before .before .if1 .left), le-ltb _ _ (c .before .if2 .left), lt-ltb _ _ (c .if3 .taken)))
 
-add-result : tie.Need-add-result
-add-result c = search needs
-
 returns-4 : tie.Need-returns-4
 unfolding pairWrong
 returns-4 c =
@@ -55,11 +43,11 @@ pub pair-wrong-spec : {M : Type 1} → statement M
 pair-wrong-spec =
     tie.close
     (tie.spec
-    offset-of-requires
-    length-of-requires
-    begin-of-requires
+    (λ c κs. search needs)
+    (λ c κs. search needs)
+    (λ c κs. search needs)
     returns
     returns-2
     returns-3
-    add-result
+    (λ c. search needs)
     returns-4)

@@ -9,32 +9,17 @@ use borrow.Author.Needs.{needs}
 use Rattle.plan.proofs.part_of.Statement.{statement}
 use Rattle.plan.proofs.part_of.Tie as tie
 
-enum-known-place : tie.Need-enum-known-place
-enum-known-place c = search needs
-
 add-result : tie.Need-add-result
 add-result c =
     let e = c .before .place .given in
     let h = c .before .before .before .pre (e .0 .0) (e .0 .1 .0) (e .1) in
     omega arith
 
-sub-result : tie.Need-sub-result
-sub-result c = search needs
-
-part-result-start : tie.Need-part-result-start
-part-result-start c = search needs
-
 part-result-end : tie.Need-part-result-end
 part-result-end c =
     let e = c .before .place .given in
     let h = c .before .before .before .pre (e .0 .0) (e .0 .1 .0) (e .1) in
     omega arith
-
-enum-told : tie.Need-enum-told
-enum-told c = search needs
-
-slice-aggregate-result : tie.Need-slice-aggregate-result
-slice-aggregate-result c = search needs
 
 returns : tie.Need-returns
 returns c =
@@ -62,12 +47,12 @@ pub part-of-spec : {M : Type 1} → statement M
 part-of-spec =
     tie.close
     (tie.spec
-    enum-known-place
+    (λ c. search needs)
     add-result
-    sub-result
-    part-result-start
+    (λ c. search needs)
+    (λ c. search needs)
     part-result-end
-    enum-told
-    slice-aggregate-result
+    (λ c. search needs)
+    (λ c. search needs)
     returns
     returns-2)

@@ -11,12 +11,6 @@ use borrow.Author.Needs.{needs}
 use Rattle.plan.proofs.place_of.Statement.{statement}
 use Rattle.plan.proofs.place_of.Tie as tie
 
-judge-requires : tie.Need-judge-requires
-judge-requires c κs = search needs
-
-enum-known-a : tie.Need-enum-known-a
-enum-known-a c = search needs
-
 returns : tie.Need-returns
 unfolding naming
 returns c = rw (← sym (c .before .before .a .given .1) ∙ c .before .before .before .before .judge .ensures, le-leb _ _ (c .if1 .taken))
@@ -24,23 +18,11 @@ returns c = rw (← sym (c .before .before .a .given .1) ∙ c .before .before .
 cast-k : tie.Need-cast-k
 cast-k c = omega (arith, accepted (c .before .before .before .before .before .before .args .plan .now) _ (sym (c .before .before .before .before .judge .ensures) ∙ c .before .before .a .given .1) .most, c .if1 .left)
 
-offset-of-requires : tie.Need-offset-of-requires
-offset-of-requires c κs = search needs
-
-add-t12 : tie.Need-add-t12
-add-t12 c = search needs
-
-length-of-requires : tie.Need-length-of-requires
-length-of-requires c κs = search needs
-
 sub-t14 : tie.Need-sub-t14
 sub-t14 c =
     let r = station-right (c .before .before .before .before .before .before .before .before .args .plan .now) _ (c .before .before .before .before .before .before .before .before .args .station) (sym (c .before .before .before .before .before .before .judge .ensures) ∙ c .before .before .before .before .a .given .1) (c .before .before .if1 .left) in
     let l = c .length-of .ensures .0 in
     omega arith
-
-enum-known-a-2 : tie.Need-enum-known-a-2
-enum-known-a-2 c = search needs
 
 returns-2 : tie.Need-returns-2
 unfolding naming
@@ -59,14 +41,14 @@ pub place-of-spec : {M : Type 1} → statement M
 place-of-spec =
     tie.close
     (tie.spec
-    judge-requires
-    enum-known-a
+    (λ c κs. search needs)
+    (λ c. search needs)
     returns
     cast-k
-    offset-of-requires
-    add-t12
-    length-of-requires
+    (λ c κs. search needs)
+    (λ c. search needs)
+    (λ c κs. search needs)
     sub-t14
-    enum-known-a-2
+    (λ c. search needs)
     returns-2
     returns-3)

@@ -4,9 +4,6 @@ use borrow.Author.Needs.{needs}
 use Rattle.plan.proofs.shape_wrong.Statement.{statement}
 use Rattle.plan.proofs.shape_wrong.Tie as tie
 
-load16-requires : tie.Need-load16-requires
-load16-requires c κs = search needs
-
 returns : tie.Need-returns
 returns c = simp (lt-ltb _ _ (c .if1 .taken))
 
@@ -18,15 +15,6 @@ returns-3 c =
     rw (← c .before .before .before .load16 .ensures)
     (simp (le-ltb _ _ (c .before .before .if1 .left), le-ltb _ _ (c .before .if2 .left), lt-ltb _ _ (c .if3 .taken)))
 
-cast-result : tie.Need-cast-result
-cast-result c = search needs
-
-mul-result : tie.Need-mul-result
-mul-result c = search needs
-
-add-result : tie.Need-add-result
-add-result c = search needs
-
 returns-4 : tie.Need-returns-4
 returns-4 c =
     rw (← c .before .before .before .load16 .ensures)
@@ -36,11 +24,11 @@ pub shape-wrong-spec : {M : Type 1} → statement M
 shape-wrong-spec =
     tie.close
     (tie.spec
-    load16-requires
+    (λ c κs. search needs)
     returns
     returns-2
     returns-3
-    cast-result
-    mul-result
-    add-result
+    (λ c. search needs)
+    (λ c. search needs)
+    (λ c. search needs)
     returns-4)

@@ -9,26 +9,11 @@ use borrow.Author.Needs.{needs}
 use Rattle.plan.proofs.station_at.Statement.{statement}
 use Rattle.plan.proofs.station_at.Tie as tie
 
-cast-station : tie.Need-cast-station
-cast-station c = search needs
-
-offset-of-requires : tie.Need-offset-of-requires
-offset-of-requires c κs = search needs
-
-length-of-requires : tie.Need-length-of-requires
-length-of-requires c κs = search needs
-
 sub-len : tie.Need-sub-len
 sub-len c =
     let r = pair-right (c .before .before .before .args .plan .now) (c .before .before .before .args .k) (c .before .before .before .pre .1) in
     let l = c .length-of .ensures .0 in
     omega arith
-
-config-at-requires : tie.Need-config-at-requires
-config-at-requires c κs = search needs
-
-add-name-at : tie.Need-add-name-at
-add-name-at c = search needs
 
 name-at-requires : tie.Need-name-at-requires
 name-at-requires c κs =
@@ -52,11 +37,11 @@ pub station-at-spec : {M : Type 1} → statement M
 station-at-spec =
     tie.close
     (tie.spec
-    cast-station
-    offset-of-requires
-    length-of-requires
+    (λ c. search needs)
+    (λ c κs. search needs)
+    (λ c κs. search needs)
     sub-len
-    config-at-requires
-    add-name-at
+    (λ c κs. search needs)
+    (λ c. search needs)
     name-at-requires
     returns)

@@ -4,27 +4,6 @@ use Rattle.words.proofs.Halves.{load-joined}
 use Rattle.words.proofs.get32.Statement.{statement}
 use Rattle.words.proofs.get32.Tie as tie
 
-get16-requires : tie.Need-get16-requires
-get16-requires c κs = search needs
-
-cast-result : tie.Need-cast-result
-cast-result c = search needs
-
-add-get16 : tie.Need-add-get16
-add-get16 c = search needs
-
-get16-requires-2 : tie.Need-get16-requires-2
-get16-requires-2 c κs = search needs
-
-cast-result-2 : tie.Need-cast-result-2
-cast-result-2 c = search needs
-
-mul-result : tie.Need-mul-result
-mul-result c = search needs
-
-add-result : tie.Need-add-result
-add-result c = search needs
-
 returns : tie.Need-returns
 returns c = load-joined 2 2 _ _ (c .before .get16 .ensures) (c .get162 .ensures)
 
@@ -32,11 +11,11 @@ pub get32-spec : {M : Type 1} → statement M
 get32-spec =
     tie.close
     (tie.spec
-    get16-requires
-    cast-result
-    add-get16
-    get16-requires-2
-    cast-result-2
-    mul-result
-    add-result
+    (λ c κs. search needs)
+    (λ c. search needs)
+    (λ c. search needs)
+    (λ c κs. search needs)
+    (λ c. search needs)
+    (λ c. search needs)
+    (λ c. search needs)
     returns)

@@ -5,9 +5,6 @@ use Rattle.words.proofs.Total.{load-in, load-out, test-in, test-out}
 use Rattle.words.proofs.load16.Statement.{statement}
 use Rattle.words.proofs.load16.Tie as tie
 
-within-requires : tie.Need-within-requires
-within-requires c κs = search needs
-
 get16-requires : tie.Need-get16-requires
 get16-requires c κs = test-in 2 _ _ (c .before .within .ensures) (c .if1 .taken)
 
@@ -18,4 +15,4 @@ returns-2 : tie.Need-returns-2
 returns-2 c = sym (load-out 2 _ _ (test-out 2 _ _ (c .before .within .ensures) (c .if1 .left)))
 
 pub load16-spec : {M : Type 1} → statement M
-load16-spec = tie.close (tie.spec within-requires get16-requires returns returns-2)
+load16-spec = tie.close (tie.spec (λ c κs. search needs) get16-requires returns returns-2)

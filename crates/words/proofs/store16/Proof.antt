@@ -5,14 +5,8 @@ use Rattle.words.proofs.Total.{store-in, store-out, test-in, test-out}
 use Rattle.words.proofs.store16.Statement.{statement}
 use Rattle.words.proofs.store16.Tie as tie
 
-within-requires : tie.Need-within-requires
-within-requires c κs = search needs
-
 put16-requires : tie.Need-put16-requires
 put16-requires c κs = test-in 2 _ _ (c .before .before .within .ensures) (c .before .if1 .taken)
-
-same-length : tie.Need-same-length
-same-length c = search needs
 
 returns : tie.Need-returns
 returns c = c .before .before .put16 .ensures ∙ sym (store-in 2 _ _ _ (test-in 2 _ _ (c .before .before .before .before .before .within .ensures) (c .before .before .before .before .if1 .taken)))
@@ -21,4 +15,4 @@ returns-2 : tie.Need-returns-2
 returns-2 c = sym (store-out 2 _ _ _ (test-out 2 _ _ (c .before .within .ensures) (c .if1 .left)))
 
 pub store16-spec : {M : Type 1} → statement M
-store16-spec = tie.close (tie.spec within-requires put16-requires same-length returns returns-2)
+store16-spec = tie.close (tie.spec (λ c κs. search needs) put16-requires (λ c. search needs) returns returns-2)

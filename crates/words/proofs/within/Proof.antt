@@ -7,17 +7,8 @@ use borrow.Author.Tests.{lt-leb}
 use Rattle.words.proofs.within.Statement.{statement}
 use Rattle.words.proofs.within.Tie as tie
 
-sub-if1 : tie.Need-sub-if1
-sub-if1 c = search needs
-
 returns : tie.Need-returns
 returns c = let a = c .before .args in let most = c .before .fits .len in let over = c .if1 .taken in sym (lt-leb (a .at + a .n) (a .len) (omega arith))
 
-add-result : tie.Need-add-result
-add-result c = search needs
-
-returns-2 : tie.Need-returns-2
-returns-2 c = search needs
-
 pub within-spec : {M : Type 1} → statement M
-within-spec = tie.close (tie.spec sub-if1 returns add-result returns-2)
+within-spec = tie.close (tie.spec (λ c. search needs) returns (λ c. search needs) (λ c. search needs))

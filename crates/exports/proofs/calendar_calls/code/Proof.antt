@@ -1,24 +1,12 @@
 -- A refusal's number, or 0.
 use mathlib.Core.Path.{sym, ap, _∙_}
 use borrow.Author.Needs.{needs}
-use Rattle.exports.specs.Codes.{codeOf}
+use Rattle.exports.specs.CalendarCodes.{codeOf}
 use Rattle.exports.proofs.calendar_calls.code.Statement.{statement}
 use Rattle.exports.proofs.calendar_calls.code.Tie as tie
-
-enum-told : tie.Need-enum-told
-enum-told c = search needs
-
-enum-known-a : tie.Need-enum-known-a
-enum-known-a c = search needs
-
-number-requires : tie.Need-number-requires
-number-requires c κs = search needs
-
-returns : tie.Need-returns
-returns c = search needs
 
 returns-2 : tie.Need-returns-2
 returns-2 c = c .number .ensures ∙ sym (ap codeOf (c .before .before .a .given .1))
 
 pub code-spec : {M : Type 1} → statement M
-code-spec = tie.close (tie.spec enum-told enum-known-a number-requires returns returns-2)
+code-spec = tie.close (tie.spec (λ c. search needs) (λ c. search needs) (λ c κs. search needs) (λ c. search needs) returns-2)

@@ -3,24 +3,9 @@ use mathlib.Core.Path.{sym, ap, _∙_}
 use borrow.Author.Needs.{needs}
 use denote.Ref.{now}
 use Rattle.calendar.specs.declared.Least.{Least}
-use Rattle.exports.specs.Codes.{leastCode, found}
+use Rattle.exports.specs.CalendarCodes.{leastCode, found}
 use Rattle.exports.proofs.calendar_calls.tell.Statement.{statement}
 use Rattle.exports.proofs.calendar_calls.tell.Tie as tie
-
-enum-known-l : tie.Need-enum-known-l
-enum-known-l c = search needs
-
-element-write-at : tie.Need-element-write-at
-element-write-at c = search needs
-
-element-write-at-2 : tie.Need-element-write-at-2
-element-write-at-2 c = search needs
-
-enum-known-l-2 : tie.Need-enum-known-l-2
-enum-known-l-2 c = search needs
-
-number-requires : tie.Need-number-requires
-number-requires c κs = search needs
 
 returns : tie.Need-returns
 returns c =
@@ -38,10 +23,10 @@ pub tell-spec : {M : Type 1} → statement M
 tell-spec =
     tie.close
     (tie.spec
-    enum-known-l
-    element-write-at
-    element-write-at-2
-    enum-known-l-2
-    number-requires
+    (λ c. search needs)
+    (λ c. search needs)
+    (λ c. search needs)
+    (λ c. search needs)
+    (λ c κs. search needs)
     returns
     returns-2)

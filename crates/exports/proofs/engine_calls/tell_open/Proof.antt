@@ -2,25 +2,10 @@
 use mathlib.Core.Path.{sym, ap, _∙_}
 use denote.Ref.{now}
 use Rattle.engine.specs.declared.OpenAnswer.{OpenAnswer}
-use Rattle.exports.specs.EngineCodes.{openCode, opened}
+use Rattle.exports.specs.EngineCodes.{openCode, openValues}
 use borrow.Author.Needs.{needs}
 use Rattle.exports.proofs.engine_calls.tell_open.Statement.{statement}
 use Rattle.exports.proofs.engine_calls.tell_open.Tie as tie
-
-enum-told : tie.Need-enum-told
-enum-told c = search needs
-
-enum-known-a : tie.Need-enum-known-a
-enum-known-a c = search needs
-
-tell-station-requires : tie.Need-tell-station-requires
-tell-station-requires c κs = search needs
-
-number-requires : tie.Need-number-requires
-number-requires c κs = search needs
-
-returns : tie.Need-returns
-returns c = search needs
 
 returns-2 : tie.Need-returns-2
 returns-2 c =
@@ -28,10 +13,10 @@ returns-2 c =
     let a = c .before .before .before .before .a in
     let told = c .before .tell-station in (
       c .number .ensures ∙ sym (ap openCode (a .given .1)),
-      told .ensures ∙ sym (ap (λ (x : OpenAnswer). opened x (now (args .at))) (a .given .1)),
+      told .ensures ∙ sym (ap (λ (x : OpenAnswer). openValues x (now (args .at))) (a .given .1)),
     )
 
 pub tell-open-spec : {M : Type 1} → statement M
 tell-open-spec =
     tie.close
-    (tie.spec enum-told enum-known-a tell-station-requires number-requires returns returns-2)
+    (tie.spec (λ c. search needs) (λ c. search needs) (λ c κs. search needs) (λ c κs. search needs) (λ c. search needs) returns-2)

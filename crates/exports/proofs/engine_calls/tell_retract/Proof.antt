@@ -2,36 +2,24 @@
 use mathlib.Core.Path.{sym, ap, _∙_}
 use denote.Ref.{now}
 use Rattle.engine.specs.declared.RetractAnswer.{RetractAnswer}
-use Rattle.exports.specs.EngineCodes.{retractCode, retracted}
+use Rattle.exports.specs.EngineCodes.{retractCode, retractValues}
 use borrow.Author.Needs.{needs}
 use Rattle.exports.proofs.engine_calls.tell_retract.Statement.{statement}
 use Rattle.exports.proofs.engine_calls.tell_retract.Tie as tie
-
-enum-known-a : tie.Need-enum-known-a
-enum-known-a c = search needs
-
-element-write-at : tie.Need-element-write-at
-element-write-at c = search needs
-
-enum-known-a-2 : tie.Need-enum-known-a-2
-enum-known-a-2 c = search needs
-
-number-requires : tie.Need-number-requires
-number-requires c κs = search needs
 
 returns : tie.Need-returns
 returns c =
     let args = c .before .before .before .args in
     let a = c .before .a in
-    (sym (ap retractCode (a .given .1)), sym (ap (λ (x : RetractAnswer). retracted x (now (args .at))) (a .given .1)))
+    (sym (ap retractCode (a .given .1)), sym (ap (λ (x : RetractAnswer). retractValues x (now (args .at))) (a .given .1)))
 
 returns-2 : tie.Need-returns-2
 returns-2 c =
     let args = c .before .before .before .before .args in
     let a2 = c .before .before .a2 in
-    (c .number .ensures ∙ sym (ap retractCode (a2 .given .1)), sym (ap (λ (x : RetractAnswer). retracted x (now (args .at))) (a2 .given .1)))
+    (c .number .ensures ∙ sym (ap retractCode (a2 .given .1)), sym (ap (λ (x : RetractAnswer). retractValues x (now (args .at))) (a2 .given .1)))
 
 pub tell-retract-spec : {M : Type 1} → statement M
 tell-retract-spec =
     tie.close
-    (tie.spec enum-known-a element-write-at enum-known-a-2 number-requires returns returns-2)
+    (tie.spec (λ c. search needs) (λ c. search needs) (λ c. search needs) (λ c κs. search needs) returns returns-2)

@@ -28,7 +28,7 @@ use Rattle.plan.proofs.name as name
 use Rattle.plan.proofs.name.Symbol as name-def
 use Rattle.plan.proofs.name.Symbol.{name as #plan·name}
 use Rattle.plan.proofs.name.Met as name-thm
-use Rattle.exports.specs.PlanCodes.{nameCode, placed}
+use Rattle.exports.specs.PlanCodes.{nameCode, nameValues}
 use Rattle.exports.proofs.plan_calls.tell_name as tell
 use Rattle.exports.proofs.plan_calls.tell_name.Symbol as tell-def
 use Rattle.exports.proofs.plan_calls.tell_name.Symbol.{name as #tell-name}
@@ -92,7 +92,7 @@ module _ {M : Type 1} (𝓤 : URA M) (H : Heap 𝓤) (A : Atoms 𝓤) (W : Given
 
   -- what is told of an answer
   abbrev Told : NameAnswer → ℕ → List ℕ → Type 0
-  Told r c ws = (c ≡ nameCode r) × (ws ≡ placed r (z .now))
+  Told r c ws = (c ≡ nameCode r) × (ws ≡ nameValues r (z .now))
 
   abbrev Numbers : RattleType
   Numbers = Array u64 2

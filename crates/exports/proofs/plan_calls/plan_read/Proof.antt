@@ -29,7 +29,7 @@ use Rattle.plan.proofs.read as read
 use Rattle.plan.proofs.read.Symbol as read-def
 use Rattle.plan.proofs.read.Symbol.{name as #plan·read}
 use Rattle.plan.proofs.read.Met as read-thm
-use Rattle.exports.specs.PlanCodes.{readCode, counted}
+use Rattle.exports.specs.PlanCodes.{readCode, readValues}
 use Rattle.exports.proofs.plan_calls.tell_read as tell
 use Rattle.exports.proofs.plan_calls.tell_read.Symbol as tell-def
 use Rattle.exports.proofs.plan_calls.tell_read.Symbol.{name as #tell-read}
@@ -79,7 +79,7 @@ module _ {M : Type 1} (𝓤 : URA M) (H : Heap 𝓤) (A : Atoms 𝓤) (W : Given
   Answered r ss = (r ≡ reading (x .now) (length (y .now))) × (ss ≡ stationsFrom (x .now) 0 (readOf r) ++ dropN (readOf r) (y .now))
 
   abbrev Told : ReadAnswer → ℕ → List ℕ → Type 0
-  Told r n ws = (n ≡ readCode r) × (ws ≡ counted r (z .now))
+  Told r n ws = (n ≡ readCode r) × (ws ≡ readValues r (z .now))
 
   abbrev Numbers : RattleType
   Numbers = Array u64 2

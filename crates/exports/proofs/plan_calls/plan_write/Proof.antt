@@ -26,7 +26,7 @@ use Rattle.plan.proofs.writer.write as write
 use Rattle.plan.proofs.writer.write.Symbol as write-def
 use Rattle.plan.proofs.writer.write.Symbol.{name as #plan·write}
 use Rattle.plan.proofs.writer.write.Met as write-thm
-use Rattle.exports.specs.PlanCodes.{writeCode, measured}
+use Rattle.exports.specs.PlanCodes.{writeCode, writeValues}
 use Rattle.exports.proofs.plan_calls.tell_write as tell
 use Rattle.exports.proofs.plan_calls.tell_write.Symbol as tell-def
 use Rattle.exports.proofs.plan_calls.tell_write.Symbol.{name as #tell-write}
@@ -79,7 +79,7 @@ module _ {M : Type 1} (𝓤 : URA M) (H : Heap 𝓤) (A : Atoms 𝓤) (W : Given
   Answered r bs = (r ≡ writing n (x .now) (length (y .now))) × (bs ≡ left r (planOf (chosen n (x .now))) (y .now))
 
   abbrev Told : WriteAnswer → ℕ → List ℕ → Type 0
-  Told r c ws = (c ≡ writeCode r) × (ws ≡ measured r (z .now))
+  Told r c ws = (c ≡ writeCode r) × (ws ≡ writeValues r (z .now))
 
   abbrev Numbers : RattleType
   Numbers = Array u64 2

@@ -2,31 +2,16 @@
 use mathlib.Core.Path.{sym, ap, _∙_}
 use denote.Ref.{now}
 use Rattle.plan.specs.declared.WriteAnswer.{WriteAnswer}
-use Rattle.exports.specs.PlanCodes.{writeCode, measured}
+use Rattle.exports.specs.PlanCodes.{writeCode, writeValues}
 use borrow.Author.Needs.{needs}
 use Rattle.exports.proofs.plan_calls.tell_write.Statement.{statement}
 use Rattle.exports.proofs.plan_calls.tell_write.Tie as tie
-
-enum-known-a : tie.Need-enum-known-a
-enum-known-a c = search needs
-
-element-write-at : tie.Need-element-write-at
-element-write-at c = search needs
-
-enum-known-a-2 : tie.Need-enum-known-a-2
-enum-known-a-2 c = search needs
-
-tell-station-requires : tie.Need-tell-station-requires
-tell-station-requires c κs = search needs
-
-number-requires : tie.Need-number-requires
-number-requires c κs = search needs
 
 returns : tie.Need-returns
 returns c =
     let args = c .before .before .before .args in
     let a = c .before .a in
-    (sym (ap writeCode (a .given .1)), sym (ap (λ (x : WriteAnswer). measured x (now (args .at))) (a .given .1)))
+    (sym (ap writeCode (a .given .1)), sym (ap (λ (x : WriteAnswer). writeValues x (now (args .at))) (a .given .1)))
 
 returns-2 : tie.Need-returns-2
 returns-2 c =
@@ -34,10 +19,10 @@ returns-2 c =
     let a2 = c .before .before .before .before .a2 in
     let told = c .before .tell-station in (
       c .number .ensures ∙ sym (ap writeCode (a2 .given .1)),
-      told .ensures ∙ sym (ap (λ (x : WriteAnswer). measured x (now (args .at))) (a2 .given .1)),
+      told .ensures ∙ sym (ap (λ (x : WriteAnswer). writeValues x (now (args .at))) (a2 .given .1)),
     )
 
 pub tell-write-spec : {M : Type 1} → statement M
 tell-write-spec =
     tie.close
-    (tie.spec enum-known-a element-write-at enum-known-a-2 tell-station-requires number-requires returns returns-2)
+    (tie.spec (λ c. search needs) (λ c. search needs) (λ c. search needs) (λ c κs. search needs) (λ c κs. search needs) returns returns-2)

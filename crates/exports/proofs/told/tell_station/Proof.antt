@@ -44,18 +44,6 @@ nowhere Output k = refl
 left : (xs : List ℕ) (s v : ℕ) (e f : Refusal) → s ≡ v → e ≡ f → stationsOf f ≡ v ∷ [] → set xs 0 s ≡ firstOr (stationsOf e) xs
 left xs s v e f told is one = ap (set xs 0) told ∙ sym (ap (λ (ss : List ℕ). firstOr ss xs) (ap stationsOf is ∙ one))
 
-enum-known-e : tie.Need-enum-known-e
-enum-known-e c = search needs
-
-enum-known-e-2 : tie.Need-enum-known-e-2
-enum-known-e-2 c = search needs
-
-enum-known-e-3 : tie.Need-enum-known-e-3
-enum-known-e-3 c = search needs
-
-element-write-at : tie.Need-element-write-at
-element-write-at c = search needs
-
 returns : tie.Need-returns
 returns c = sym (ap (λ (ss : List ℕ). firstOr ss (now (c .before .args .at))) (nowhere (c .before .args .e) (c .match .keys4)))
 
@@ -71,4 +59,4 @@ returns-2 c =
 pub tell-station-spec : {M : Type 1} → statement M
 tell-station-spec =
     tie.close
-    (tie.spec enum-known-e enum-known-e-2 enum-known-e-3 element-write-at returns returns-2)
+    (tie.spec (λ c. search needs) (λ c. search needs) (λ c. search needs) (λ c. search needs) returns returns-2)

@@ -1,5 +1,5 @@
 -- `answer` meets its contract: each `return` stands behind the tests that `answered` makes.
-use Rattle.plan.specs.WriteSteps.{answered}
+use Rattle.plan.specs.Steps.{answered}
 use borrow.Author.Tests.{lt-ltb, le-ltb}
 use borrow.Author.Needs.{needs}
 use Rattle.plan.proofs.writer.answer.Statement.{statement}
@@ -9,15 +9,9 @@ returns : tie.Need-returns
 unfolding answered
 returns c = simp (lt-ltb _ _ (c .if1 .taken))
 
-cast-t5 : tie.Need-cast-t5
-cast-t5 c = search needs
-
 returns-2 : tie.Need-returns-2
 unfolding answered
 returns-2 c = simp (le-ltb _ _ (c .before .before .before .if1 .left), lt-ltb _ _ (c .before .if2 .taken))
-
-cast-t7 : tie.Need-cast-t7
-cast-t7 c = search needs
 
 returns-3 : tie.Need-returns-3
 unfolding answered
@@ -32,4 +26,4 @@ unfolding answered
 returns-5 c = simp (le-ltb _ _ (c .before .before .before .before .before .before .if1 .left), le-ltb _ _ (c .before .before .before .before .if2 .left), le-ltb _ _ (c .before .before .if3 .left), le-ltb _ _ (c .if4 .left))
 
 pub answer-spec : {M : Type 1} → statement M
-answer-spec = tie.close (tie.spec returns cast-t5 returns-2 cast-t7 returns-3 returns-4 returns-5)
+answer-spec = tie.close (tie.spec returns (λ c. search needs) returns-2 (λ c. search needs) returns-3 returns-4 returns-5)

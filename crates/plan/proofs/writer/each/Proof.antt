@@ -6,7 +6,7 @@ use borrow.Author.Count.{below-more}
 use Rattle.plan.specs.declared.Station.{Station}
 use Rattle.plan.specs.declared.writer.Pen.{Pen}
 use Rattle.plan.specs.Writing.{noStation}
-use Rattle.plan.specs.WriteSteps.{Draft, stepped, drafted, NameSized}
+use Rattle.plan.specs.Steps.{Draft, stepped, drafted, NameSized}
 use Rattle.plan.proofs.WriteAgain.{LentAgain, lends-again, comes-back}
 use Rattle.plan.proofs.WriteDraft.{drafted-zero, drafted-next, length-drafted}
 use Rattle.plan.proofs.Station as T

@@ -9,28 +9,13 @@ use Rattle.plan.proofs.writer.has_room.Tie as tie
 returns : tie.Need-returns
 returns c = simp (c .before .if1 .taken, lt-leb _ _ (c .if2 .taken))
 
-mul-if3 : tie.Need-mul-if3
-mul-if3 c = search needs
-
-add-if3 : tie.Need-add-if3
-add-if3 c = search needs
-
 returns-2 : tie.Need-returns-2
 returns-2 c = simp (c .before .before .before .if1 .taken, le-leb _ _ (c .before .before .if2 .left), lt-leb _ _ (c .if3 .taken))
-
-add-result : tie.Need-add-result
-add-result c = search needs
-
-add-result-2 : tie.Need-add-result-2
-add-result-2 c = search needs
 
 returns-3 : tie.Need-returns-3
 returns-3 c = and-next (c .before .before .before .before .if1 .taken) (and-next (le-leb _ _ (c .before .before .before .if2 .left)) (and-next (le-leb _ _ (c .before .if3 .left)) refl))
 
-returns-4 : tie.Need-returns-4
-returns-4 c = search needs
-
 pub has-room-spec : {M : Type 1} → statement M
 has-room-spec =
     tie.close
-    (tie.spec returns mul-if3 add-if3 returns-2 add-result add-result-2 returns-3 returns-4)
+    (tie.spec returns (λ c. search needs) (λ c. search needs) returns-2 (λ c. search needs) (λ c. search needs) returns-3 (λ c. search needs))

@@ -1,23 +1,17 @@
 -- `pen_step` meets its contract: a ready pen stores and moves on, another stays.
 use Rattle.plan.proofs.WriteTests.{ready-true}
-use Rattle.plan.specs.WriteSteps.{stepped}
+use Rattle.plan.specs.Steps.{stepped}
 use native.Mathlib.Omega.{arith}
 use mathlib.Core.Path.{sym, _∙_}
 use borrow.Author.Needs.{needs}
 use Rattle.plan.proofs.writer.pen_step.Statement.{statement}
 use Rattle.plan.proofs.writer.pen_step.Tie as tie
 
-is-ready-requires : tie.Need-is-ready-requires
-is-ready-requires c κs = search needs
-
 put-station-requires : tie.Need-put-station-requires
 put-station-requires c κs = ready-true (c .before .before .before .before .args .p) (sym (c .before .before .is-ready .ensures) ∙ c .before .if1 .taken)
 
 move-on-requires : tie.Need-move-on-requires
 move-on-requires c κs = let r = ready-true (c .before .before .before .before .before .before .before .args .p) (sym (c .before .before .before .before .before .is-ready .ensures) ∙ c .before .before .before .before .if1 .taken) in (omega arith, omega arith)
-
-same-length : tie.Need-same-length
-same-length c = search needs
 
 returns : tie.Need-returns
 unfolding stepped
@@ -31,9 +25,9 @@ pub pen-step-spec : {M : Type 1} → statement M
 pen-step-spec =
     tie.close
     (tie.spec
-    is-ready-requires
+    (λ c κs. search needs)
     put-station-requires
     move-on-requires
-    same-length
+    (λ c. search needs)
     returns
     returns-2)

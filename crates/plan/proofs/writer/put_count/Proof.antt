@@ -7,15 +7,6 @@ use borrow.Author.Needs.{needs}
 use Rattle.plan.proofs.writer.put_count.Statement.{statement}
 use Rattle.plan.proofs.writer.put_count.Tie as tie
 
-cast-store16 : tie.Need-cast-store16
-cast-store16 c = search needs
-
-store16-requires : tie.Need-store16-requires
-store16-requires c κs = search needs
-
-same-length : tie.Need-same-length
-same-length c = search needs
-
 returns : tie.Need-returns
 returns c = simp (eq-eqb _ _ (c .before .before .before .before .if1 .taken)) (c .before .before .store16 .ensures ∙ store-sets 2 0 (c .before .before .before .before .before .before .before .args .p .n) (c .before .before .before .before .before .before .before .args .out .now) (omega arith))
 
@@ -23,4 +14,4 @@ returns-2 : tie.Need-returns-2
 returns-2 c = simp (ne-eqb _ _ (c .if1 .left))
 
 pub put-count-spec : {M : Type 1} → statement M
-put-count-spec = tie.close (tie.spec cast-store16 store16-requires same-length returns returns-2)
+put-count-spec = tie.close (tie.spec (λ c. search needs) (λ c κs. search needs) (λ c. search needs) returns returns-2)

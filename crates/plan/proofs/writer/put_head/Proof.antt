@@ -1,4 +1,4 @@
-use Rattle.plan.specs.WriteSteps.{headOf}
+use Rattle.plan.specs.Steps.{headOf}
 -- `put_head` meets its contract: four stores, each behind the last, are one run.
 use Rattle.plan.proofs.WriteStores.{store-sets, store-then}
 use Rattle.words.proofs.Laws.{length-bytes}
@@ -12,30 +12,6 @@ use Prim.Native.Nat.{_+_}
 use borrow.Author.Needs.{needs}
 use Rattle.plan.proofs.writer.put_head.Statement.{statement}
 use Rattle.plan.proofs.writer.put_head.Tie as tie
-
-store16-requires : tie.Need-store16-requires
-store16-requires c κs = search needs
-
-add-store32 : tie.Need-add-store32
-add-store32 c = search needs
-
-store32-requires : tie.Need-store32-requires
-store32-requires c κs = search needs
-
-add-store32-2 : tie.Need-add-store32-2
-add-store32-2 c = search needs
-
-store32-requires-2 : tie.Need-store32-requires-2
-store32-requires-2 c κs = search needs
-
-add-store32-3 : tie.Need-add-store32-3
-add-store32-3 c = search needs
-
-store32-requires-3 : tie.Need-store32-requires-3
-store32-requires-3 c κs = search needs
-
-same-length : tie.Need-same-length
-same-length c = search needs
 
 returns : tie.Need-returns
 returns c =
@@ -60,12 +36,12 @@ pub put-head-spec : {M : Type 1} → statement M
 put-head-spec =
     tie.close
     (tie.spec
-    store16-requires
-    add-store32
-    store32-requires
-    add-store32-2
-    store32-requires-2
-    add-store32-3
-    store32-requires-3
-    same-length
+    (λ c κs. search needs)
+    (λ c. search needs)
+    (λ c κs. search needs)
+    (λ c. search needs)
+    (λ c κs. search needs)
+    (λ c. search needs)
+    (λ c κs. search needs)
+    (λ c. search needs)
     returns)

@@ -9,33 +9,6 @@ use borrow.Author.Needs.{needs}
 use Rattle.plan.proofs.writer.put_pair.Statement.{statement}
 use Rattle.plan.proofs.writer.put_pair.Tie as tie
 
-mul-store32 : tie.Need-mul-store32
-mul-store32 c = search needs
-
-add-store32 : tie.Need-add-store32
-add-store32 c = search needs
-
-cast-store32 : tie.Need-cast-store32
-cast-store32 c = search needs
-
-store32-requires : tie.Need-store32-requires
-store32-requires c κs = search needs
-
-mul-store32-2 : tie.Need-mul-store32-2
-mul-store32-2 c = search needs
-
-add-store32-2 : tie.Need-add-store32-2
-add-store32-2 c = search needs
-
-cast-store32-2 : tie.Need-cast-store32-2
-cast-store32-2 c = search needs
-
-store32-requires-2 : tie.Need-store32-requires-2
-store32-requires-2 c κs = search needs
-
-same-length : tie.Need-same-length
-same-length c = search needs
-
 returns : tie.Need-returns
 returns c =
     let a = c .before .before .before .before .before .before .before .before .before .args in
@@ -49,13 +22,13 @@ pub put-pair-spec : {M : Type 1} → statement M
 put-pair-spec =
     tie.close
     (tie.spec
-    mul-store32
-    add-store32
-    cast-store32
-    store32-requires
-    mul-store32-2
-    add-store32-2
-    cast-store32-2
-    store32-requires-2
-    same-length
+    (λ c. search needs)
+    (λ c. search needs)
+    (λ c. search needs)
+    (λ c κs. search needs)
+    (λ c. search needs)
+    (λ c. search needs)
+    (λ c. search needs)
+    (λ c κs. search needs)
+    (λ c. search needs)
     returns)

@@ -1,7 +1,7 @@
 -- `put_station` meets its contract: with room, the count, the pair and the record are stored in turn.
 use Rattle.plan.proofs.WriteTests.{roomy-true}
-use Rattle.plan.specs.WriteSteps.{placed}
-use Rattle.plan.specs.Writing.{sizeOf, recordOf}
+use Rattle.plan.specs.Steps.{placed}
+use Rattle.plan.specs.Writing.{sizeOf, recordBytes}
 use Rattle.words.specs.Le.{bytesOf}
 use lib.Seq.{sets}
 use mathlib.Core.List.{List, _++_}
@@ -12,9 +12,6 @@ use Prim.Native.Nat.{ℕ, _+_, _*_}
 use borrow.Author.Needs.{needs}
 use Rattle.plan.proofs.writer.put_station.Statement.{statement}
 use Rattle.plan.proofs.writer.put_station.Tie as tie
-
-has-room-requires : tie.Need-has-room-requires
-has-room-requires c κs = search needs
 
 put-count-requires : tie.Need-put-count-requires
 put-count-requires c κs = let r = roomy-true (c .before .before .before .before .args .s) (c .before .before .before .before .args .p) (length (c .before .before .before .before .args .out .now)) (sym (c .before .before .has-room .ensures) ∙ c .before .if1 .taken) in (omega arith, omega arith)
@@ -28,9 +25,6 @@ put-pair-requires c κs = let r = roomy-true (c .before .before .before .before 
 put-record-requires : tie.Need-put-record-requires
 put-record-requires c κs = let r = roomy-true (c .before .before .before .before .before .before .before .before .before .before .before .before .before .args .s) (c .before .before .before .before .before .before .before .before .before .before .before .before .before .args .p) (length (c .before .before .before .before .before .before .before .before .before .before .before .before .before .args .out .now)) (sym (c .before .before .before .before .before .before .before .before .before .before .before .has-room .ensures) ∙ c .before .before .before .before .before .before .before .before .before .before .if1 .taken) in (omega arith, omega arith)
 
-same-length : tie.Need-same-length
-same-length c = search needs
-
 returns : tie.Need-returns
 unfolding placed
 returns c =
@@ -38,7 +32,7 @@ returns c =
     let q = bytesOf 4 (a .p .at) ++ bytesOf 4 (sizeOf (a .s)) in
     rw (sym (c .before .before .before .before .before .before .before .before .before .before .before .before .before .before .has-room .ensures) ∙ c .before .before .before .before .before .before .before .before .before .before .before .before .before .if1 .taken)
     (c .before .before .put-record .ensures
-    ∙ ap (λ (o : List ℕ). sets o (a .p .at) (recordOf (a .s))) (c .before .before .before .before .before .before .put-pair .ensures ∙ ap (λ (o : List ℕ). sets o (2 + 8 * a .p .k) q) (c .before .before .before .before .before .before .before .before .before .before .before .put-count .ensures)))
+    ∙ ap (λ (o : List ℕ). sets o (a .p .at) (recordBytes (a .s))) (c .before .before .before .before .before .before .put-pair .ensures ∙ ap (λ (o : List ℕ). sets o (2 + 8 * a .p .k) q) (c .before .before .before .before .before .before .before .before .before .before .before .put-count .ensures)))
 
 returns-2 : tie.Need-returns-2
 returns-2 c = rw (sym (c .before .has-room .ensures) ∙ c .if1 .left)
@@ -47,11 +41,11 @@ pub put-station-spec : {M : Type 1} → statement M
 put-station-spec =
     tie.close
     (tie.spec
-    has-room-requires
+    (λ c κs. search needs)
     put-count-requires
     add-put-pair
     put-pair-requires
     put-record-requires
-    same-length
+    (λ c. search needs)
     returns
     returns-2)

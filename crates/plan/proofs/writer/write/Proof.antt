@@ -7,7 +7,7 @@ use Rattle.plan.specs.declared.Station.{Station}
 use Rattle.plan.specs.declared.WriteAnswer.{WriteAnswer}
 use Rattle.plan.specs.declared.writer.Pen.{Pen}
 use Rattle.plan.specs.Writing.{planOf, chosen, writing, left}
-use Rattle.plan.specs.WriteSteps.{drafted, NameSized, penOf, wanted, answered, writes}
+use Rattle.plan.specs.Steps.{drafted, NameSized, penOf, wanted, answered, writes}
 use Rattle.plan.proofs.WriteAgain.{LentAgain, lends-again, comes-back}
 use Rattle.plan.proofs.WriteLaw.{First, first-held, first-most, second-held, written}
 use Rattle.plan.proofs.Station as T

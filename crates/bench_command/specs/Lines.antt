@@ -1,0 +1,60 @@
+-- The command lines, and the lines of the answers (document 01, "Bench program").
+use mathlib.Core.List.{List, [], _∷_, _++_}
+use Prim.Native.Nat.{ℕ}
+use Rattle.line.specs.declared.Event.{Event}
+use Rattle.line.specs.Matter.{kindOf, valueOf}
+use Rattle.bench_command.specs.declared.Command.{Command}
+use Rattle.bench_command.specs.declared.Command.the-variants.{Post, Retract, Run, RunStation, Commit}
+use Rattle.bench_command.specs.declared.Output.{Output}
+use Rattle.bench_command.specs.declared.Output.the-variants as Out
+use Rattle.bench_command.specs.Decimal.{decimal, Fits}
+
+-- the words, in ASCII
+abbrev pub post : List ℕ
+post = 112 ∷ 111 ∷ 115 ∷ 116 ∷ []
+
+abbrev pub retract : List ℕ
+retract = 114 ∷ 101 ∷ 116 ∷ 114 ∷ 97 ∷ 99 ∷ 116 ∷ []
+
+abbrev pub run : List ℕ
+run = 114 ∷ 117 ∷ 110 ∷ []
+
+abbrev pub commit : List ℕ
+commit = 99 ∷ 111 ∷ 109 ∷ 109 ∷ 105 ∷ 116 ∷ []
+
+abbrev pub no : List ℕ
+no = 110 ∷ 111 ∷ []
+
+-- numbers behind a word, each behind one space
+unfoldable pub behind : List ℕ → List ℕ → List ℕ
+behind word [] = word
+behind word (n ∷ ns) = behind (word ++ (32 ∷ decimal n)) ns
+
+-- "post STATION TIME KIND VALUE", "retract NUMBER", "run", "run STATION", "commit TIME"
+unfoldable pub commandLine : Command → List ℕ
+commandLine (Post station time kind value) = behind post (station ∷ time ∷ kind ∷ value ∷ [])
+commandLine (Retract number) = behind retract (number ∷ [])
+commandLine Run = run
+commandLine (RunStation station) = behind run (station ∷ [])
+commandLine (Commit time) = behind commit (time ∷ [])
+
+-- "as is one over 64 bits"
+abbrev pub FitsAll : Command → Type 0
+FitsAll (Post station time kind value) = Fits station × Fits time × Fits kind × Fits value
+FitsAll (Retract number) = Fits number
+FitsAll Run = Unit
+FitsAll (RunStation station) = Fits station
+FitsAll (Commit time) = Fits time
+
+-- "post: number, undone; run: station, undone; retract: undone; commit: .. its count"; "A refusal prints "no NUMBER""; each a line
+unfoldable pub outputOf : Output → List ℕ
+outputOf (Out.Post number undone) = behind post (number ∷ undone ∷ []) ++ 10 ∷ []
+outputOf (Out.Retract undone) = behind retract (undone ∷ []) ++ 10 ∷ []
+outputOf (Out.Run station undone) = behind run (station ∷ undone ∷ []) ++ 10 ∷ []
+outputOf (Out.Commit count) = behind commit (count ∷ []) ++ 10 ∷ []
+outputOf (Out.No number) = behind no (number ∷ []) ++ 10 ∷ []
+
+-- "a line for each event with time, target, kind, source, number, value"
+unfoldable pub entryLine : Event → List ℕ
+entryLine x =
+    behind (decimal (x .time)) (x .target ∷ kindOf (x .matter) ∷ x .source ∷ x .number ∷ valueOf (x .matter) ∷ []) ++ 10 ∷ []

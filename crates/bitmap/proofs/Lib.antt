@@ -1,3 +1,0 @@
-pub mod Cases
-pub mod Bits
-pub mod ChildLaws

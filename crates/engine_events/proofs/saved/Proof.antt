@@ -1,0 +1,10 @@
+-- The call's slot is the node's.
+use borrow.Author.Needs.{needs}
+use Rattle.engine_events.proofs.saved.Statement.{statement}
+use Rattle.engine_events.proofs.saved.Tie as tie
+
+returns : tie.Need-returns
+returns c = cc
+
+pub saved-spec : {M : Type 1} → statement M
+saved-spec = tie.close (tie.spec (λ c κs. search needs) (λ c κs. search needs) returns)

@@ -1,0 +1,4 @@
+pub mod Shows
+pub mod Holds
+pub mod Promises
+pub mod Count

@@ -1,0 +1,117 @@
+-- An event is undone: it is made unrun, and then its sends are removed.
+use mathlib.Core.Path.{_≡_, refl, sym, _∙_, subst}
+use mathlib.Core.List.{List, [], _∷_, _++_, append-nil}
+use Prim.Native.Nat.{ℕ, _+_, _<_}
+use native.Mathlib.Omega.{arith}
+use Rattle.words.specs.Le.{loadAt}
+use Rattle.line.specs.declared.Event.{Event}
+use Rattle.line.specs.declared.State.{State}
+use Rattle.line.specs.Station.{Plan, States, update, runEvent}
+use Rattle.line.proofs.Order.{Ge}
+use Rattle.line.proofs.All.{All}
+use Rattle.rules.specs.Held.{ran, event, In, Queue, unmark}
+use Rattle.rules.specs.Undo.{NoneLater}
+use Rattle.rules.proofs.Functions.{runs, removeAll, undoEvent}
+use Rattle.rules.proofs.Members.{all-in}
+use Rattle.rules.proofs.Replay.{sends-later}
+use Rattle.rules.proofs.Unmark.{Latest, found-runs}
+use Rattle.rules.proofs.Marked.{first-in}
+use Rattle.rules.proofs.Cascade.{found-after, found-new}
+use Rattle.rules.proofs.Neat.{unmark-neat}
+use Rattle.rules.proofs.Unrun.{unrun-in}
+use Rattle.rules.proofs.Exist.{IsHeld}
+use Rattle.rules.proofs.Registered.{run-none-before, unmark-first}
+use Rattle.engine_rows.specs.Layout.{slotRow}
+use Rattle.engine_index.specs.Shape.{slotOf}
+use Rattle.engine_index.specs.Stands.{Cell, cell}
+use Rattle.engine_events.specs.Holds.{Has, Holds, Nodes, none, nonzero, sendsAt}
+use Rattle.engine_events.specs.Promises.{NoneWaits, Becomes}
+use Rattle.engine_rollback.specs.Mid.{Mid, RollsTo}
+use Rattle.engine_rollback.specs.Promises.{RemovesBelow}
+use Rattle.engine_rollback.proofs.Down.{sends-down}
+use Rattle.engine_rollback.proofs.Cells.{has-held, from-on, nodes-stay}
+use Rattle.engine_rollback.proofs.Gone.{are-held}
+use Rattle.engine_rollback.proofs.Stays.{latest-of}
+use Rattle.engine_rollback.proofs.Due.{Child, Due, Partly, partly}
+
+-- all of two facts
+both : {P Q : Event → Type 0} {R : Event → Type 0} → ((y : Event) → P y → Q y → R y) → (ys : List Event) → All P ys → All Q ys → All R ys
+both f [] a b = tt
+both f (y ∷ ys) a b = (f y (a .0) (b .0), both f ys (a .1) (b .1))
+
+-- no nodes are left, so no sends
+nothing-left : {cells : List Cell} {es : List Event} (p : Plan) (q : Queue) → Nodes cells [] es → removeAll p es q ≡ q
+unfolding removeAll
+nothing-left p q none = refl
+
+module _ {p : Plan} {n c now : ℕ} {xs : List ℕ} {q : Queue} {cells : List Cell} {ws : List Event} {st : States} {e : Event} {b : State} {x : ℕ}
+    (M : Mid p n c now xs q cells ws st) (m : Has (cell x (ran e b)) cells) (N : NoneLater e (q .held)) where
+  abbrev es : List Event
+  es = runEvent p b e .sends
+
+  -- the queue with e unrun
+  abbrev pub unrunning : Queue
+  unrunning = record { states = update (q .states) (e .target) b; held = unmark e (q .held) }
+
+  run : In (ran e b) (q .held)
+  run = subst (λ l. In (ran e b) l) (M .holds .stores .held) (has-held m)
+
+  pub none-waits : NoneWaits e (q .held)
+  none-waits z k t =
+      unrun-in (λ y. y .target ≡ e .target → Ge y e) z (q .held) k (run-none-before e b (q .held) (M .neat .strict) (M .neat .blocked) run) t .is
+
+  lat : Latest (e .target) e e b (q .held) (unmark e (q .held))
+  lat = latest-of q (M .neat) run N
+
+  inside : e .target < p .count
+  inside = all-in (λ z. event z .target < p .count) run (M .neat .inside)
+
+  sent : All (Child e) es
+  sent = both (λ y l d. record { later = l; down = d }) es (sends-later p (M .range) b e inside) (sends-down p (M .range) b e inside)
+
+  due-here : {ys : List ℕ} {ks : List ℕ} → (B : Becomes p n c now ys unrunning cells) → Nodes cells ks es
+      → Due p n c now ys unrunning (B .after) ks es ws st e
+  due-here {ys} {ks} B K =
+      let A = found-after p (M .range) q (e .target) e e b (unmark e (q .held)) ws st (M .ok) lat in
+      record {
+        mid = record { range = M .range; holds = B .holds; ok = A .ok; neat = unmark-neat p e b (q .held) run N (M .neat) };
+        fresh = found-new p (M .range) q (e .target) e e b (unmark e (q .held)) ws st (M .ok) lat;
+        cause = first-in (unmark-first e b (q .held) (M .neat .strict) run (run-none-before e b (q .held) (M .neat .strict) (M .neat .blocked) run));
+        sent = sent;
+        nodes =
+            nodes-stay (M .holds .stores .stands .sorted) (B .from)
+            (subst (λ l. All (λ y. IsHeld y l) es) (sym (B .holds .stores .held)) (are-held es ws (A .ok))) K;
+      }
+
+  kids : Nodes cells (nonzero (loadAt 2 (slotRow n (slotOf n x) + 56) xs) ++ (nonzero (loadAt 2 (slotRow n (slotOf n x) + 58) xs) ++ [])) es
+  unfolding sendsAt
+  kids = rw append-nil (M .holds .stores .kids x e b m)
+
+  pub undone : {k₁ k₂ r₁ r₂ : ℕ} {ys zs us : List ℕ} → k₁ ≡ loadAt 2 (slotRow n (slotOf n x) + 56) xs → k₂ ≡ loadAt 2 (slotRow n (slotOf n x) + 58) xs
+      → Becomes p n c now ys unrunning cells
+      → (k₁ ≡ 0 → (r₁ ≡ 0) × (zs ≡ ys)) → RemovesBelow n c ys (e .target) k₁ r₁ zs
+      → (k₂ ≡ 0 → (r₂ ≡ 0) × (us ≡ zs)) → RemovesBelow n c zs (e .target) k₂ r₂ us
+      → RollsTo p n c now (1 + r₁ + r₂) q us (undoEvent p q (e .target) e b (unmark e (q .held))) cells
+  unfolding undoEvent
+  undone {k₁} {k₂} {r₁} {r₂} {ys} {zs} {us} a₁ a₂ B Z₁ R₁ Z₂ R₂ = go (last .rest) (last .due) (last .same)
+    where
+      first : Partly p n c now r₁ zs unrunning (B .after) (nonzero k₂ ++ []) es ws st e
+      first = partly k₁ (due-here B (rw (a₁, a₂) kids)) Z₁ R₁
+
+      last : Partly p n c now r₂ us (first .queue) (first .after) [] (first .rest) ws st e
+      last = partly k₂ (first .due) Z₂ R₂
+
+      count : 1 + r₁ + r₂ + runs (last .queue .held) ≡ runs (q .held)
+      count = omega (arith, first .undone, last .undone, found-runs lat)
+
+      go : (rest : List Event) → Due p n c now us (last .queue) (last .after) [] rest ws st e
+          → removeAll p (first .rest) (first .queue) ≡ removeAll p rest (last .queue)
+          → RollsTo p n c now (1 + r₁ + r₂) q us (removeAll p es unrunning) cells
+      go rest D q₂ = record {
+        becomes = record {
+          after = last .after;
+          holds = subst (λ r. Holds p n c now us r (last .after)) (sym (first .same ∙ q₂ ∙ nothing-left p (last .queue) (D .nodes))) (D .mid .holds);
+          from = from-on (B .from) (from-on (first .from) (last .from));
+        };
+        undone = subst (λ (r : Queue). 1 + r₁ + r₂ + runs (r .held) ≡ runs (q .held)) (sym (first .same ∙ q₂ ∙ nothing-left p (last .queue) (D .nodes))) count;
+      }

@@ -1,0 +1,22 @@
+-- `engine_rollback::remove` meets its contract: every target is below n.
+use native.Mathlib.Omega.{arith}
+use borrow.Author.Needs.{needs}
+use Rattle.engine_rollback.proofs.Behinds.{behind-same}
+use Rattle.engine_rollback.proofs.Few.{runs-few}
+use Rattle.engine_rollback.proofs.Answers.{removes, removes-else}
+use Rattle.engine_rollback.proofs.remove.Statement.{statement}
+use Rattle.engine_rollback.proofs.remove.Tie as tie
+
+returns : tie.Need-returns
+returns c = (behind-same _, (omega arith, removes-else _ _ _ (omega arith)))
+
+returns-2 : tie.Need-returns-2
+returns-2 c =
+    let o = c .before .before .before .before .before .before in
+    let u = c .before .before .remove-below .ensures in (
+      u .0,
+      (omega (arith, u .1 .0, runs-few (o .args .n) (o .args .b .now) (o .args .c)), removes _ _ _ (u .1 .1 .1)),
+    )
+
+pub remove-spec : {M : Type 1} → statement M
+remove-spec = tie.close (tie.spec returns (λ c κs. search needs) (λ c. search needs) returns-2)

@@ -1,0 +1,2 @@
+pub mod Mid
+pub mod Promises

@@ -1,0 +1,31 @@
+-- The fields that were loaded are those of the definition.
+use borrow.Author.Needs.{needs}
+use Rattle.engine_rows.specs.Records.{stateAt}
+use Rattle.engine_rows.proofs.load_state.Statement.{statement}
+use Rattle.engine_rows.proofs.load_state.Tie as tie
+
+returns : tie.Need-returns
+unfolding stateAt
+returns c =
+    λ i. record {
+      draw = c .before .before .before .before .load32 .ensures i;
+      level = c .before .before .before .load322 .ensures i;
+      heard = c .before .before .load323 .ensures i;
+      lost = c .before .load324 .ensures i;
+      sent = c .load325 .ensures i;
+    }
+
+pub load-state-spec : {M : Type 1} → statement M
+load-state-spec =
+    tie.close
+    (tie.spec
+    (λ c κs. search needs)
+    (λ c. search needs)
+    (λ c κs. search needs)
+    (λ c. search needs)
+    (λ c κs. search needs)
+    (λ c. search needs)
+    (λ c κs. search needs)
+    (λ c. search needs)
+    (λ c κs. search needs)
+    returns)

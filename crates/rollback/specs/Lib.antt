@@ -1,2 +1,0 @@
-pub mod Mid
-pub mod Steps

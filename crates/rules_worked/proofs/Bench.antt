@@ -1,0 +1,50 @@
+-- The worked list of the bench program (document 01, "Bench program"): its plan, its calls, and the answers that the document prints.
+use mathlib.Core.Path.{_≡_, refl}
+use mathlib.Core.List.{List, [], _∷_, _++_}
+use Rattle.words.specs.Le.{bytesOf}
+use Rattle.refusal.specs.Tests.{orNext, judged}
+use Rattle.generator.specs.Draw.{nextDraw}
+use Rattle.line.specs.declared.Config.{Config}
+use Rattle.line.specs.declared.Matter.the-variants.{Read, Frame, Level}
+use Rattle.line.specs.Event.{posted, decide, lex, before}
+use Rattle.line.specs.Matter.{matterOf}
+use Rattle.line.specs.Station.{parentOut, numberOut, update, initial, send, silent, period, runRead, drawnState, lose, hear, pass, runFrame, runLevel, runMatter, runAt, runEvent}
+use Rattle.rules.specs.Held.{same, delete, place, leastUnrun, mark, isRun, undone, heldPost, noneUnrun, unrunBefore, logged, kept, recordOf}
+use Rattle.rules.specs.Engine.{opened, Call, Post, RunLowest, Commit, Answer, Posted, Ran, Committed}
+use Rattle.rules.specs.Checks.{checks}
+use Rattle.rules.specs.Entry.{entry, entries}
+use Rattle.rules.specs.Calls.{postOf, with}
+use Rattle.rules.proofs.Functions.{runs, behind, orThis, latest, removeEach, undoFound, undoWithin, undoFrom, remove, add, addAll, runLeast}
+use Rattle.rules.proofs.Compute.{settle, postStep, retractStep, runStep, stationStep, lowestOf, commitStep, answerTo, answersTo}
+use Rattle.rules_worked.proofs.Check.{nth, allIn, in-range, at, zeros, pairs, Gives, computed}
+
+-- "two unnamed stations; periods 1000 and 200, threshold 5000, delay 30, noise 0, seed 1, parents 0"
+station : Config
+station = record { parent = 0; calm = 1000; spring = 200; threshold = 5000; hop = 30; noise = 0; seed = 1 }
+
+pub plan : List Config
+plan = station ∷ station ∷ []
+
+-- "post 1 0 1 0 / run / run / run / post 1 500 3 5000 / run / run / commit 1001"
+pub calls : List Call
+calls = Post 1 0 1 0 ∷ RunLowest ∷ RunLowest ∷ RunLowest ∷ Post 1 500 3 5000 ∷ RunLowest ∷ RunLowest ∷ Commit 1001 (zeros 1536) ∷ []
+
+pub answers : List Answer
+answers =
+    Posted 0 0 ∷ Ran 1 0 ∷ Ran 0 0 ∷ Ran 1 0 ∷ Posted 1 1 ∷ Ran 1 0 ∷ Ran 1 0
+    ∷ Committed 4 (entries (at 0 1 posted 0 Read ∷ at 30 0 1 1 (Frame 1) ∷ at 500 1 posted 1 (Level 5000) ∷ at 1000 1 1 0 Read ∷ []) ++ zeros 1440) ∷ []
+
+pub bench : Gives plan 64 calls answers
+unfolding plan station calls answers allIn parentOut numberOut nth pairs zeros
+    settle postStep retractStep runStep stationStep lowestOf commitStep answerTo answersTo
+    runs behind orThis latest removeEach undoFound undoWithin undoFrom remove add addAll runLeast
+    postOf with entry entries bytesOf checks orNext judged opened matterOf
+    same delete place leastUnrun mark isRun undone heldPost noneUnrun unrunBefore logged kept recordOf
+    decide lex before update initial send silent period runRead drawnState lose hear pass runFrame runLevel runMatter runAt runEvent nextDraw
+bench = computed plan 64 calls answers (in-range plan tt tt tt) refl
+
+-- the 24 bytes of the third event
+pub third : entry (at 500 1 posted 1 (Level 5000))
+    ≡ 0xf4 ∷ 0x01 ∷ 0 ∷ 0 ∷ 0 ∷ 0 ∷ 0 ∷ 0 ∷ 1 ∷ 0 ∷ 0 ∷ 0 ∷ 0x88 ∷ 0x13 ∷ 0 ∷ 0 ∷ 1 ∷ 0 ∷ 0xff ∷ 0xff ∷ 3 ∷ 0 ∷ 0 ∷ 0 ∷ []
+unfolding entry bytesOf
+third = refl
