@@ -3,12 +3,12 @@ use Rattle.refusal.specs.declared.Refusal.{Refusal}
 use Rattle.refusal.specs.Numbers.{numberOf}
 use Rattle.bench_command.specs.declared.Output.{Output}
 use Rattle.bench_command.specs.declared.Output.the-variants.{Post, Retract, Run, No}
-use Rattle.engine.specs.declared.PostAnswer.{PostAnswer}
-use Rattle.engine.specs.declared.PostAnswer.the-variants as P
-use Rattle.engine.specs.declared.RetractAnswer.{RetractAnswer}
-use Rattle.engine.specs.declared.RetractAnswer.the-variants as T
-use Rattle.engine.specs.declared.RunAnswer.{RunAnswer}
-use Rattle.engine.specs.declared.RunAnswer.the-variants as R
+use Rattle.engine_answers.specs.declared.PostAnswer.{PostAnswer}
+use Rattle.engine_answers.specs.declared.PostAnswer.the-variants as P
+use Rattle.engine_answers.specs.declared.RetractAnswer.{RetractAnswer}
+use Rattle.engine_answers.specs.declared.RetractAnswer.the-variants as T
+use Rattle.engine_answers.specs.declared.RunAnswer.{RunAnswer}
+use Rattle.engine_answers.specs.declared.RunAnswer.the-variants as R
 
 -- "A refusal prints "no NUMBER""
 abbrev pub noShown : Refusal → Output

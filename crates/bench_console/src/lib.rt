@@ -60,7 +60,7 @@ fn put(text: &[u8], n: usize) {
 
 fn say(o: Output) {
     let mut text = [0u8; 96];
-    let n = bench_command::print(&mut text, o);
+    let n = bench_printing::print(&mut text, o);
     put(&text, n);
 }
 
@@ -68,7 +68,7 @@ fn say(o: Output) {
 fn say_entry(out: &[u8], k: u16) {
     let e = engine_rows::read_event(out, 24 * k as u32);
     let mut text = [0u8; 96];
-    let n = bench_command::print_entry(&mut text, e);
+    let n = bench_printing::print_entry(&mut text, e);
     put(&text, n);
 }
 
@@ -115,7 +115,7 @@ fn parse(line: &[u8], len: usize) -> Parsed {
     if line.len() < len {
         return Parsed::Refused(Refusal::Command);
     }
-    bench_command::parse(&line[..len])
+    bench_parsing::parse(&line[..len])
 }
 
 fn answer(b: &mut [u8], line: &[u8], len: usize) {

@@ -8,9 +8,9 @@ use Rattle.rules.specs.Engine.{Engine, opened}
 use Rattle.rules.specs.Demand as D
 use Rattle.rules.specs.Demand.{Made, Calls, Comes}
 use Rattle.rules.proofs.Whole as W
-use Rattle.engine.specs.declared.OpenAnswer.the-variants.{Done}
-use Rattle.engine.specs.Represents.{lineOf, Represents}
-use Rattle.engine.specs.Promises.{Opens}
+use Rattle.engine_answers.specs.declared.OpenAnswer.the-variants.{Done}
+use Rattle.engine_promises.specs.Represents.{lineOf, Represents}
+use Rattle.engine_promises.specs.Promises.{Opens}
 use Rattle.engine.specs.Session.{Chain, end, next, Claim}
 
 -- ---- the rules' calls

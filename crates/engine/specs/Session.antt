@@ -3,9 +3,9 @@ use mathlib.Core.List.{List, [], _∷_}
 use Prim.Native.Nat.{ℕ}
 use Rattle.rules.specs.Engine.{Engine, opened}
 use Rattle.rules.specs.Demand.{Made, Calls, Demand}
-use Rattle.engine.specs.declared.OpenAnswer.the-variants.{Done}
-use Rattle.engine.specs.Represents.{lineOf}
-use Rattle.engine.specs.Promises.{Opens, Answered}
+use Rattle.engine_answers.specs.declared.OpenAnswer.the-variants.{Done}
+use Rattle.engine_promises.specs.Represents.{lineOf}
+use Rattle.engine_promises.specs.Promises.{Opens, Answered}
 
 -- the calls take the buffer from xs to ys, refused ones among them
 pub data Chain : List ℕ → List Made → List ℕ → Type 0 where

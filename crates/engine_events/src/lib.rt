@@ -1,20 +1,17 @@
-// The held events with their index (crate engine_index), the stations' states (crate engine_rows) and the calendar, changed together.
+// The held events with their index (crate engine_index), the stations' states (crate engine_rows) and the calendar: what they hold together, and what is
+// read of them. engine_moves changes them.
 //
-// The calendar stands from byte 64 on, in 32768 + 64 n bytes, and is told the time of a station's first unrun event when that may have changed.
-// Each function takes any bytes and any numbers; n stations and c slots are the header's.
+// The calendar stands from byte 64 on, in 32768 + 64 n bytes. Each function takes any bytes and any numbers; n stations and c slots are the header's.
 
 ghost use mathlib.Core.Path.{_≡_};
-ghost use mathlib.Core.Bool.{true, false};
-ghost use Prim.Native.Nat.{_+_, _*_, _≤_, _<_};
+ghost use Prim.Native.Nat.{_+_};
 ghost use lib.ListN.{length};
 ghost use Rattle.words.specs.Le.{loadAt};
-ghost use Rattle.rings.specs.Table.{Frame};
 ghost use Rattle.engine_rows.specs.Layout.{slotRow};
 ghost use Rattle.engine_rows.specs.Records.{eventAt, stateAt};
 ghost use Rattle.engine_index.specs.Shape.{slotOf};
 ghost use Rattle.engine_events.specs.Holds.{fitsIn};
-ghost use Rattle.engine_events.specs.Count.{runsBelow};
-ghost use Rattle.engine_events.specs.Promises.{Behind, Tells, HoldsEvent, RunsEvent, UnrunsEvent, DiscardsEvent, ReleasesEvent, Finds, Raises, ClearsEvents};
+ghost use Rattle.engine_events.specs.Promises.{Finds};
 use calendar::Least;
 use line::Event;
 use line::State;
@@ -37,153 +34,30 @@ pub fn fits(b: &[u8], n: u16, c: u16) -> bool
 
 // ---- what stands in the slot of a node
 
-// The slot of a node; 0 for a sentinel.
-pub fn slot(n: u16, x: u16) -> u16
-    ensures { λ r. ⌜ r ≡ slotOf n x ⌝ }
-{
-    let first = 2 * n as u32 + 1;
-    if (x as u32) < first {
-        return 0;
-    }
-    (x as u32 - first) as u16
-}
-
 pub fn event(b: &[u8], n: u16, x: u16) -> Event
     ensures { λ r. ⌜ r ≡ eventAt (slotRow n (slotOf n x)) (now (b .entry)) ⌝ }
 {
-    engine_rows::event(b, n, slot(n, x))
+    engine_rows::event(b, n, engine_index::slot(n, x))
 }
 
 // The state from before it.
 pub fn saved(b: &[u8], n: u16, x: u16) -> State
     ensures { λ r. ⌜ r ≡ stateAt (slotRow n (slotOf n x) + 24) (now (b .entry)) ⌝ }
 {
-    engine_rows::saved(b, n, slot(n, x))
+    engine_rows::saved(b, n, engine_index::slot(n, x))
 }
 
 // The nodes of its sends; 0 is none.
 pub fn first_send(b: &[u8], n: u16, x: u16) -> u16
     ensures { λ r. ⌜ r ≡ loadAt 2 (slotRow n (slotOf n x) + 56) (now (b .entry)) ⌝ }
 {
-    engine_rows::number(b, n, slot(n, x), 0)
+    engine_rows::number(b, n, engine_index::slot(n, x), 0)
 }
 
 pub fn second_send(b: &[u8], n: u16, x: u16) -> u16
     ensures { λ r. ⌜ r ≡ loadAt 2 (slotRow n (slotOf n x) + 58) (now (b .entry)) ⌝ }
 {
-    engine_rows::number(b, n, slot(n, x), 1)
-}
-
-// ---- the calendar
-
-// The calendar is told the time of a station's first unrun event.
-fn tell(b: &mut [u8], n: u16, c: u16, s: u16)
-    requires { ⌜ (n ≤ 256) × (c ≤ 4096) × (s < n) × (32768 + 256 * n + 256 * c ≤ length (now b)) ⌝ }
-    ensures frame { λ _. ⌜ Frame 64 (32768 + 64 * n) (now (b .entry)) (now (b .exit)) ⌝ }
-    ensures tells { λ _. ⌜ Tells n c s (now (b .entry)) (now (b .exit)) ⌝ }
-{
-    let end = 32832 + 64 * n as usize;
-    let x = engine_index::next(b, n, c, s);
-    if x == s {
-        calendar::unregister(&mut b[64..end], s as u64);
-        return;
-    }
-    let t = engine_rows::time(b, n, slot(n, x));
-    calendar::register(&mut b[64..end], s as u64, t);
-}
-
-// ---- the changes
-
-// An event is held, unrun. Answers its node.
-pub fn hold(b: &mut [u8], n: u16, c: u16, e: Event) -> u16
-    ensures frame { λ _. ⌜ Behind (now (b .entry)) (now (b .exit)) ⌝ }
-    ensures takes { λ r. ⌜ HoldsEvent n c (now (b .entry)) e r (now (b .exit)) ⌝ }
-{
-    if fits(b, n, c) {
-        let t = e.target;
-        if t < n {
-            let x = engine_index::put(b, n, c, e);
-            tell(b, n, c, t);
-            return x;
-        }
-    }
-    0
-}
-
-// The first unrun event of its station, of node x, has run: its station's state is the one after it, and its sends are at these nodes.
-pub fn run(b: &mut [u8], n: u16, c: u16, x: u16, after: State, first: u16, second: u16)
-    ensures frame { λ _. ⌜ Behind (now (b .entry)) (now (b .exit)) ⌝ }
-    ensures runs { λ _. ⌜ RunsEvent n c (now (b .entry)) x after first second (now (b .exit)) ⌝ }
-{
-    if fits(b, n, c) {
-        let i = engine_index::slot_in(b, n, c, x);
-        if i < c {
-            let e = engine_rows::event(b, n, i);
-            let t = e.target;
-            if t < n {
-                let v = engine_rows::state(b, n, t);
-                engine_rows::set_number(b, n, i, 0, first);
-                engine_rows::set_number(b, n, i, 1, second);
-                engine_index::mark(b, n, c, x, v);
-                engine_rows::set_state(b, n, t, after);
-                tell(b, n, c, t);
-            }
-        }
-    }
-}
-
-// The last run event of its station, of node x, is unrun again, and the station's state is that from before it. False where x is no run event's node:
-// then nothing is done.
-pub fn unrun(b: &mut [u8], n: u16, c: u16, x: u16) -> bool
-    ensures frame { λ _. ⌜ Behind (now (b .entry)) (now (b .exit)) ⌝ }
-    ensures none { λ r. ⌜ (r ≡ false → now (b .exit) ≡ now (b .entry)) ⌝ }
-    ensures fewer { λ r. ⌜ (r ≡ true → 1 + runsBelow n (now (b .exit)) c ≤ runsBelow n (now (b .entry)) c) ⌝ }
-    ensures unruns { λ r. ⌜ UnrunsEvent n c (now (b .entry)) x r (now (b .exit)) ⌝ }
-{
-    if fits(b, n, c) {
-        let i = engine_index::slot_in(b, n, c, x);
-        if i < c {
-            if engine_rows::number(b, n, i, 2) == 2 {
-                let e = engine_rows::event(b, n, i);
-                let t = e.target;
-                if t < n {
-                    let v = engine_rows::saved(b, n, i);
-                    engine_index::unmark(b, n, c, x);
-                    engine_rows::set_state(b, n, t, v);
-                    tell(b, n, c, t);
-                    return true;
-                }
-            }
-        }
-    }
-    false
-}
-
-// The unrun event of node x leaves.
-pub fn discard(b: &mut [u8], n: u16, c: u16, x: u16)
-    ensures frame { λ _. ⌜ Behind (now (b .entry)) (now (b .exit)) ⌝ }
-    ensures fewer { λ _. ⌜ runsBelow n (now (b .exit)) c ≤ runsBelow n (now (b .entry)) c ⌝ }
-    ensures leaves { λ _. ⌜ DiscardsEvent n c (now (b .entry)) x (now (b .exit)) ⌝ }
-{
-    if fits(b, n, c) {
-        let i = engine_index::slot_in(b, n, c, x);
-        if i < c {
-            let e = engine_rows::event(b, n, i);
-            let t = e.target;
-            if t < n {
-                engine_index::drop(b, n, c, x);
-                tell(b, n, c, t);
-            }
-        }
-    }
-}
-
-// The first of all held events, a run one, of node x, leaves.
-pub fn release(b: &mut [u8], n: u16, c: u16, x: u16)
-    ensures frame { λ _. ⌜ Behind (now (b .entry)) (now (b .exit)) ⌝ }
-    ensures releases { λ _. ⌜ ReleasesEvent n c (now (b .entry)) x (now (b .exit)) ⌝ }
-{
-    engine_index::release(b, n, c, x);
+    engine_rows::number(b, n, engine_index::slot(n, x), 1)
 }
 
 // A station of the least time among the first unrun events, with that time.
@@ -197,31 +71,4 @@ pub fn lowest(b: &[u8], n: u16, c: u16) -> Least
         }
     }
     Least::Refused(Refusal::Idle)
-}
-
-// The commit time is raised.
-pub fn raise(b: &mut [u8], n: u16, c: u16, floor: u64)
-    ensures frame { λ _. ⌜ Behind (now (b .entry)) (now (b .exit)) ⌝ }
-    ensures raises { λ _. ⌜ Raises n c floor (now (b .entry)) (now (b .exit)) ⌝ }
-{
-    if fits(b, n, c) {
-        if 0 < n {
-            let end = 32832 + 64 * n as usize;
-            calendar::advance(&mut b[64..end], floor);
-        }
-    }
-}
-
-// No event is held.
-pub fn clear(b: &mut [u8], n: u16, c: u16, width: u64)
-    ensures frame { λ _. ⌜ Behind (now (b .entry)) (now (b .exit)) ⌝ }
-    ensures clears { λ _. ⌜ ClearsEvents n c width (now (b .entry)) (now (b .exit)) ⌝ }
-{
-    if fits(b, n, c) {
-        if 0 < n {
-            let end = 32832 + 64 * n as usize;
-            calendar::open(n as u64, width, &mut b[64..end]);
-            engine_index::clear(b, n, c);
-        }
-    }
 }

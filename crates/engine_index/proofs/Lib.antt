@@ -12,10 +12,9 @@ pub mod FreeLaws
 pub mod Confines
 pub mod SlotLaws
 pub mod Refusals
-mod Found
+pub mod Found
 pub mod Made
 pub mod Ends
 pub mod Searches
 pub mod ToRules
 pub mod Elsewhere
-pub mod OpenLaws

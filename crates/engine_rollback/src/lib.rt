@@ -27,7 +27,7 @@ fn undo(b: &mut [u8], n: u16, c: u16, x: u16) -> u64
     }
     let first = engine_events::first_send(b, n, x);
     let second = engine_events::second_send(b, n, x);
-    if engine_events::unrun(b, n, c, x) {
+    if engine_moves::unrun(b, n, c, x) {
         let k = remove_below(b, n, c, s, first);
         let m = remove_below(b, n, c, s, second);
         return 1 + k + m;
@@ -48,7 +48,7 @@ fn undo_from(b: &mut [u8], n: u16, c: u16, s: u16, e: Event) -> u64
         if x == n + s {
             return count;
         }
-        if engine_rows::before(b, n, engine_events::slot(n, x), e) {
+        if engine_rows::before(b, n, engine_index::slot(n, x), e) {
             return count;
         }
         let k = undo(b, n, c, x);
@@ -74,10 +74,10 @@ fn remove_below(b: &mut [u8], n: u16, c: u16, s: u16, x: u16) -> u64
     let t = e.target;
     if t < s {
         let k = undo_from(b, n, c, t, e);
-        engine_events::discard(b, n, c, x);
+        engine_moves::discard(b, n, c, x);
         return k;
     }
-    engine_events::discard(b, n, c, x);
+    engine_moves::discard(b, n, c, x);
     0
 }
 
@@ -102,7 +102,7 @@ fn settled(b: &[u8], n: u16, c: u16, s: u16, e: Event) -> bool
     if x == n + s {
         return true;
     }
-    engine_rows::before(b, n, engine_events::slot(n, x), e)
+    engine_rows::before(b, n, engine_index::slot(n, x), e)
 }
 
 // Does what undo_from does; mostly there is nothing to undo, and a few steps tell.
@@ -138,6 +138,6 @@ pub fn add(b: &mut [u8], n: u16, c: u16, e: Event) -> Added
         return Added { node: 0, undone: 0 };
     }
     let undone = roll_back(b, n, c, t, e);
-    let node = engine_events::hold(b, n, c, e);
+    let node = engine_moves::hold(b, n, c, e);
     Added { node, undone }
 }

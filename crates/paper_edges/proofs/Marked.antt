@@ -13,7 +13,7 @@ use Rattle.line.specs.declared.Matter.{Matter}
 use Rattle.line.specs.declared.State.{State}
 use Rattle.line.specs.Station.{Outcome, silent, send, pass, lose, hear, drawnState, period, runRead, runFrame}
 use Rattle.calendar.specs.Ring.{leafFor}
-use Rattle.plan.proofs.Edges as plan
+use Rattle.plan_format.proofs.Edges as plan
 use Rattle.paper_edges.specs.Marked.{Marked}
 
 -- ---- frames

@@ -10,9 +10,9 @@ use Rattle.line.specs.declared.Config.{Config}
 use Rattle.line.specs.declared.State.{State}
 use Rattle.line.specs.Station.{period, runRead, runFrame}
 use Rattle.calendar.specs.Ring.{leafAt, ringEnd, leafFor}
-use Rattle.plan.specs.declared.ReadAnswer.the-variants.{Stations, Refused}
-use Rattle.plan.specs.Plan.{offsetOf}
-use Rattle.plan.specs.Reading.{judging}
+use Rattle.plan_format.specs.declared.ReadAnswer.the-variants.{Stations, Refused}
+use Rattle.plan_format.specs.Plan.{offsetOf}
+use Rattle.plan_format.specs.Reading.{judging}
 
 -- the leaf of a time, at a floor: 4096 is the overflow table
 abbrev pub leafSeen : ℕ → ℕ → ℕ

@@ -9,16 +9,16 @@ use Rattle.refusal.specs.Numbers.{numberOf}
 use Rattle.refusal.specs.Tests.{Verdict, accepted, orNext, judged}
 use Rattle.refusal.specs.declared.Refusal.{Refusal}
 use Rattle.refusal.specs.declared.Refusal.the-variants.{Output, Station as NoStation}
-use Rattle.plan.specs.declared.Station.{Station}
-use Rattle.plan.specs.declared.ReadAnswer.{ReadAnswer}
-use Rattle.plan.specs.declared.ReadAnswer.the-variants as R
-use Rattle.plan.specs.declared.NameAnswer.the-variants as N
-use Rattle.plan.specs.declared.WriteAnswer.{WriteAnswer}
-use Rattle.plan.specs.declared.WriteAnswer.the-variants as W
-use Rattle.plan.specs.Plan.{count, offsetOf, lengthOf, shapeWrong, pairWrong, trails, fieldWrong, nameWrong}
-use Rattle.plan.specs.Reading.{any, judging, inRoom, reading}
-use Rattle.plan.specs.Naming.{placeIn, naming}
-use Rattle.plan.specs.Writing.{fieldOut, wordOut, writing}
+use Rattle.plan_format.specs.declared.Station.{Station}
+use Rattle.plan_format.specs.declared.ReadAnswer.{ReadAnswer}
+use Rattle.plan_format.specs.declared.ReadAnswer.the-variants as R
+use Rattle.plan_format.specs.declared.NameAnswer.the-variants as N
+use Rattle.plan_format.specs.declared.WriteAnswer.{WriteAnswer}
+use Rattle.plan_format.specs.declared.WriteAnswer.the-variants as W
+use Rattle.plan_format.specs.Plan.{count, offsetOf, lengthOf, shapeWrong, pairWrong, trails, fieldWrong, nameWrong}
+use Rattle.plan_format.specs.Reading.{any, judging, inRoom, reading}
+use Rattle.plan_naming.specs.Naming.{placeIn, naming}
+use Rattle.plan_format.specs.Writing.{fieldOut, wordOut, writing}
 use Rattle.plan.specs.Numbers.{readSays, nameSays, writeSays, readChecks, nameChecks, writeChecks}
 
 -- ---- a judged plan, and what is said of it

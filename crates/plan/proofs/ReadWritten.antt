@@ -10,14 +10,14 @@ use lib.ListN.{length, getD, take, drop, replicate, length-append, length-drop}
 use lib.Seq.{drop-drop, drop-at, take-at, length-take-le}
 use Rattle.words.proofs.Laws.{length-bytes}
 use Rattle.words.proofs.Bytes.{load-found}
-use Rattle.plan.specs.declared.Station.{Station}
-use Rattle.plan.specs.declared.ReadAnswer.the-variants.{Stations}
-use Rattle.plan.specs.Plan.{count, offsetOf, lengthOf, begins, configAt, stationAt, stationsFrom, nameOut}
-use Rattle.plan.specs.Reading.{judging}
-use Rattle.plan.specs.Writing.{sizeOf, recordBytes, pairsOf, recordsOf, planOf, noStation, fieldOut, wordOut, cleared}
-use Rattle.plan.proofs.Names.{name-short}
-use Rattle.plan.proofs.Accepted.{accepts}
-use Rattle.plan.proofs.Pairs.{PairRight}
+use Rattle.plan_format.specs.declared.Station.{Station}
+use Rattle.plan_format.specs.declared.ReadAnswer.the-variants.{Stations}
+use Rattle.plan_format.specs.Plan.{count, offsetOf, lengthOf, begins, configAt, stationAt, stationsFrom, nameOut}
+use Rattle.plan_format.specs.Reading.{judging}
+use Rattle.plan_format.specs.Writing.{sizeOf, recordBytes, pairsOf, recordsOf, planOf, noStation, fieldOut, wordOut, cleared}
+use Rattle.plan_format.proofs.Names.{name-short}
+use Rattle.plan_format.proofs.Accepted.{accepts}
+use Rattle.plan_format.proofs.Pairs.{PairRight}
 
 -- ---- what can be written
 

@@ -8,12 +8,12 @@ use lib.ListN.{length, getD, take, drop, replicate, length-drop, take-append-dro
 use lib.Seq.{drop-drop, drop-length, take-at, length-take-le}
 use Rattle.words.specs.Le.{loadAt, bytesOf}
 use Rattle.words.proofs.Bytes.{bytes-load}
-use Rattle.plan.specs.declared.ReadAnswer.the-variants.{Stations}
-use Rattle.plan.specs.Plan.{offsetOf, lengthOf, begins, configAt, padded, stationAt, stationsFrom}
-use Rattle.plan.specs.Reading.{judging}
-use Rattle.plan.specs.Writing.{recordBytes, pairsOf, recordsOf, planOf}
-use Rattle.plan.proofs.Accepted.{Accepted, accepted, begins-first, pairs-within}
-use Rattle.plan.proofs.Pairs.{PairRight}
+use Rattle.plan_format.specs.declared.ReadAnswer.the-variants.{Stations}
+use Rattle.plan_format.specs.Plan.{offsetOf, lengthOf, begins, configAt, padded, stationAt, stationsFrom}
+use Rattle.plan_format.specs.Reading.{judging}
+use Rattle.plan_format.specs.Writing.{recordBytes, pairsOf, recordsOf, planOf}
+use Rattle.plan_format.proofs.Accepted.{Accepted, accepted, begins-first, pairs-within}
+use Rattle.plan_format.proofs.Pairs.{PairRight}
 
 -- so many stations are read as were asked for
 pub length-from : (p : List ℕ) (k n : ℕ) → length (stationsFrom p k n) ≡ n

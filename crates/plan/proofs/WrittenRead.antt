@@ -11,14 +11,14 @@ use borrow.Author.Tests.{ltb-false}
 use Rattle.refusal.specs.declared.Refusal.{Refusal}
 use Rattle.line.specs.Station.{numberOut}
 use Rattle.line.proofs.Fits.{or-false}
-use Rattle.plan.specs.declared.Station.{Station}
-use Rattle.plan.specs.declared.ReadAnswer.the-variants.{Stations}
-use Rattle.plan.specs.declared.WriteAnswer.{WriteAnswer}
-use Rattle.plan.specs.declared.WriteAnswer.the-variants.{Length, Refused}
-use Rattle.plan.specs.Plan.{stationsFrom, nameOut}
-use Rattle.plan.specs.Reading.{any, judging}
-use Rattle.plan.specs.Writing.{planOf, noStation, chosen, fieldOut, wordOut, writing, cleared}
-use Rattle.plan.proofs.Lows.{any-none}
+use Rattle.plan_format.specs.declared.Station.{Station}
+use Rattle.plan_format.specs.declared.ReadAnswer.the-variants.{Stations}
+use Rattle.plan_format.specs.declared.WriteAnswer.{WriteAnswer}
+use Rattle.plan_format.specs.declared.WriteAnswer.the-variants.{Length, Refused}
+use Rattle.plan_format.specs.Plan.{stationsFrom, nameOut}
+use Rattle.plan_format.specs.Reading.{any, judging}
+use Rattle.plan_format.specs.Writing.{planOf, noStation, chosen, fieldOut, wordOut, writing, cleared}
+use Rattle.plan_format.proofs.Lows.{any-none}
 use Rattle.plan.proofs.ReadWritten.{Sized, Writable, written-accepted, written-read}
 
 -- a test that refuses did not hold

@@ -6,16 +6,16 @@ use lib.Dec.{ltb}
 use lib.ListN.{length}
 use Rattle.refusal.specs.Numbers.{numberOf}
 use Rattle.refusal.specs.Tests.{stationOut, Check, says, Verdict, accepted, refused}
-use Rattle.plan.specs.declared.Station.{Station}
-use Rattle.plan.specs.declared.ReadAnswer.{ReadAnswer}
-use Rattle.plan.specs.declared.ReadAnswer.the-variants as R
-use Rattle.plan.specs.declared.NameAnswer.{NameAnswer}
-use Rattle.plan.specs.declared.NameAnswer.the-variants as N
-use Rattle.plan.specs.declared.WriteAnswer.{WriteAnswer}
-use Rattle.plan.specs.declared.WriteAnswer.the-variants as W
-use Rattle.plan.specs.Plan.{count, shapeWrong, pairWrong, trails, fieldWrong, nameWrong}
-use Rattle.plan.specs.Reading.{any}
-use Rattle.plan.specs.Writing.{planOf, chosen, countOut, fieldOut, wordOut}
+use Rattle.plan_format.specs.declared.Station.{Station}
+use Rattle.plan_format.specs.declared.ReadAnswer.{ReadAnswer}
+use Rattle.plan_format.specs.declared.ReadAnswer.the-variants as R
+use Rattle.plan_format.specs.declared.NameAnswer.{NameAnswer}
+use Rattle.plan_format.specs.declared.NameAnswer.the-variants as N
+use Rattle.plan_format.specs.declared.WriteAnswer.{WriteAnswer}
+use Rattle.plan_format.specs.declared.WriteAnswer.the-variants as W
+use Rattle.plan_format.specs.Plan.{count, shapeWrong, pairWrong, trails, fieldWrong, nameWrong}
+use Rattle.plan_format.specs.Reading.{any}
+use Rattle.plan_format.specs.Writing.{planOf, chosen, countOut, fieldOut, wordOut}
 
 -- accepted, or refused with the number; the station of 2, 4 and 5 is `stationsOf` of the refusal
 abbrev pub readSays : ReadAnswer → Verdict

@@ -1,12 +1,9 @@
 -- The node behind a node in the log: the rings' answer, at the log.
 use borrow.Author.Needs.{needs}
 use Rattle.engine_index.proofs.Made.{looked-log}
-use Rattle.engine_index.proofs.Refusals.{range-true, range-gone}
+use Rattle.engine_index.proofs.Refusals.{range-gone}
 use Rattle.engine_index.proofs.next_logged.Statement.{statement}
 use Rattle.engine_index.proofs.next_logged.Tie as tie
-
-log-requires : tie.Need-log-requires
-log-requires c κs = range-true (c .before .before .before .args .n) (c .before .before .before .args .c) (c .before .in-range .ensures) (c .if1 .taken)
 
 returns : tie.Need-returns
 returns c =
@@ -19,4 +16,4 @@ returns-2 c = λ h k. absurd (range-gone (c .before .before .before .args .n) (c
 
 pub next-logged-spec : {M : Type 1} → statement M
 next-logged-spec =
-    tie.close (tie.spec (λ c κs. search needs) log-requires (λ c κs. search needs) returns returns-2)
+    tie.close (tie.spec (λ c κs. search needs) (λ c κs. search needs) (λ c κs. search needs) returns returns-2)

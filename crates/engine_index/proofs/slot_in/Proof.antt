@@ -1,26 +1,27 @@
 -- The tests are those of a slot's node.
+use Prim.Native.Nat.{_≤_}
 use borrow.Author.Needs.{needs}
 use Rattle.engine_index.proofs.Found.{found, sentinel, short, out-of-range}
 use Rattle.engine_index.proofs.Refusals.{range-true}
 use Rattle.engine_index.proofs.slot_in.Statement.{statement}
 use Rattle.engine_index.proofs.slot_in.Tie as tie
 
-log-requires : tie.Need-log-requires
-log-requires c κs = range-true _ _ (c .before .in-range .ensures) (c .if1 .taken)
-
-nodes-requires : tie.Need-nodes-requires
-nodes-requires c κs = range-true _ _ (c .before .before .in-range .ensures) (c .before .if1 .taken)
+-- the numbers are in range
+range : (c : tie.Then1) → (c .before .before .before .args .n ≤ 256) × (c .before .before .before .args .c ≤ 4096)
+range c = range-true _ _ (c .before .in-range .ensures) (c .if1 .taken)
 
 returns : tie.Need-returns
 returns c =
-    let range = range-true _ _ (c .before .before .before .before .before .in-range .ensures) (c .before .before .before .before .if1 .taken) in
-    found _ _ _ _ (range .0) (range .1) (c .before .before .before .log .ensures) (c .before .before .nodes .ensures) (c .before .if2 .taken) (c .if3 .taken)
+    let r = range (c .before .before .before .before) in
+    found _ _ _ _ (r .0) (r .1) (c .before .before .before .log .ensures) (c .before .before .nodes .ensures (r .0) (r .1)) (c .before .if2 .taken) (c .if3 .taken)
 
 returns-2 : tie.Need-returns-2
 returns-2 c = sentinel _ _ _ _ (c .if3 .left)
 
 returns-3 : tie.Need-returns-3
-returns-3 c = short _ _ _ _ (c .before .before .log .ensures) (c .before .nodes .ensures) (c .if2 .left)
+returns-3 c =
+    let r = range (c .before .before .before) in
+    short _ _ _ _ (c .before .before .log .ensures) (c .before .nodes .ensures (r .0) (r .1)) (c .if2 .left)
 
 returns-4 : tie.Need-returns-4
 returns-4 c = out-of-range _ _ _ _ (c .before .in-range .ensures) (c .if1 .left)
@@ -30,16 +31,16 @@ slot-in-spec =
     tie.close
     (tie.spec
     (λ c κs. search needs)
-    log-requires
+    (λ c κs. search needs)
     (λ c. search needs)
-    nodes-requires
-    (λ c. search needs)
-    (λ c. search needs)
+    (λ c κs. search needs)
     (λ c. search needs)
     (λ c. search needs)
     (λ c. search needs)
-    (λ c. search needs)
-    (λ c. search needs)
+    (λ c. let r = range (c .before .before .before) in search needs)
+    (λ c. let r = range (c .before .before .before .before) in search needs)
+    (λ c. let r = range (c .before .before .before .before) in search needs)
+    (λ c. let r = range (c .before .before .before .before) in search needs)
     returns
     returns-2
     returns-3

@@ -22,12 +22,12 @@ use Rattle.engine_rollback.proofs.undo_from.Reads as undo-from
 use Rattle.engine_rollback.proofs.undo_from.Kinds as undo-from-kinds
 use Rattle.engine_rollback.proofs.+remove_below+undo+undo_from.Lts-undo_from as undo-from-lts
 use Rattle.engine_index.proofs.prev.Reads as prev-reads
-use Rattle.engine_events.proofs.discard.Reads as discard-reads
+use Rattle.engine_moves.proofs.discard.Reads as discard-reads
 use Rattle.engine_events.proofs.event.Reads as event-reads
 use Rattle.engine_events.proofs.first_send.Reads as first-send-reads
 use Rattle.engine_events.proofs.second_send.Reads as second-send-reads
-use Rattle.engine_events.proofs.slot.Reads as slot-reads
-use Rattle.engine_events.proofs.unrun.Reads as unrun-reads
+use Rattle.engine_index.proofs.slot.Reads as slot-reads
+use Rattle.engine_moves.proofs.unrun.Reads as unrun-reads
 use Rattle.engine_rows.proofs.before.Reads as before-reads
 use Rattle.engine_rollback.proofs.+remove_below+undo+undo_from.{statement}
 use Rattle.engine_rollback.proofs.+remove_below+undo+undo_from.Tie.{close}

@@ -1,15 +1,15 @@
 -- A walk by hand, with two calls and no branch: of what `name` answers only the place is told, and the numbers are given up to `tell_name`.
-use Rattle.plan.proofs.Walk.{ !, Atoms, Calls, Contract, FmC, Fml, Fun, Given, Heap, Is, Lasts, Lft, List, Loops, Meets, Memory, NamedLft}
-use Rattle.plan.proofs.Walk.{RefT, Room, Routine, SProp, Share, ShrSlice, Stays, Tables, Triple, URA, Val, Walks, WpFn, WpFn-mono, [], _$_}
-use Rattle.plan.proofs.Walk.{_<_, _^_, _∵_, _∷_, _≡_, _⊛_, addr, alloc0, alloc1, and-then, ap, assigns, await, by, calls-at, cited, done}
-use Rattle.plan.proofs.Walk.{drop, emp, ends-at, ensured, ent, enter, entered, erased, exE, fact, fat, fjoin, fld, flft, fmOf, forget}
-use Rattle.plan.proofs.Walk.{frame, free0, free1, fres, from, fsplit, fst∗, ftrue, fullShare, givenOf, goes-none, goes-none-slice, heard}
-use Rattle.plan.proofs.Walk.{hop, id⊢, init, join, keep, keeps, land, lasts, later, length, load, look, look-in, move, named, namedLft}
-use Rattle.plan.proofs.Walk.{no-more, nothing, of-opd, onEntry, only, owned, owns, params1, pass0, pass1, peeks, pick, plain, qed, raw}
-use Rattle.plan.proofs.Walk.{refl, returns, rewrite, says, sem, sep, shows, shr-slice-copy, shr-slice-tells, slice-vals, sliceVal, snd∗}
-use Rattle.plan.proofs.Walk.{some, split, stay-none, stay-none-slice, stop, sub, suffices, tables, tablesOf, tripleOf, u64, u8, uint-lawful}
-use Rattle.plan.proofs.Walk.{uint-makes, uint-tells, uint-vals, use1, use2, via, vint, vptr, w64, walk-meets, walkOf, walked, whole, ‵, ℕ}
-use Rattle.plan.proofs.Walk.{⋆}
+use Rattle.plan_format.proofs.Walk.{ !, Atoms, Calls, Contract, FmC, Fml, Fun, Given, Heap, Is, Lasts, Lft, List, Loops, Meets, Memory, NamedLft}
+use Rattle.plan_format.proofs.Walk.{RefT, Room, Routine, SProp, Share, ShrSlice, Stays, Tables, Triple, URA, Val, Walks, WpFn, WpFn-mono, [], _$_}
+use Rattle.plan_format.proofs.Walk.{_<_, _^_, _∵_, _∷_, _≡_, _⊛_, addr, alloc0, alloc1, and-then, ap, assigns, await, by, calls-at, cited, done}
+use Rattle.plan_format.proofs.Walk.{drop, emp, ends-at, ensured, ent, enter, entered, erased, exE, fact, fat, fjoin, fld, flft, fmOf, forget}
+use Rattle.plan_format.proofs.Walk.{frame, free0, free1, fres, from, fsplit, fst∗, ftrue, fullShare, givenOf, goes-none, goes-none-slice, heard}
+use Rattle.plan_format.proofs.Walk.{hop, id⊢, init, join, keep, keeps, land, lasts, later, length, load, look, look-in, move, named, namedLft}
+use Rattle.plan_format.proofs.Walk.{no-more, nothing, of-opd, onEntry, only, owned, owns, params1, pass0, pass1, peeks, pick, plain, qed, raw}
+use Rattle.plan_format.proofs.Walk.{refl, returns, rewrite, says, sem, sep, shows, shr-slice-copy, shr-slice-tells, slice-vals, sliceVal, snd∗}
+use Rattle.plan_format.proofs.Walk.{some, split, stay-none, stay-none-slice, stop, sub, suffices, tables, tablesOf, tripleOf, u64, u8, uint-lawful}
+use Rattle.plan_format.proofs.Walk.{uint-makes, uint-tells, uint-vals, use1, use2, via, vint, vptr, w64, walk-meets, walkOf, walked, whole, ‵, ℕ}
+use Rattle.plan_format.proofs.Walk.{⋆}
 use denote.Array.{Array}
 use denote.Enum.Laws as EL
 use denote.RattleType.{RattleType}
@@ -17,22 +17,22 @@ use denote.Ref.{MutRef, mut-tells, ptr-vals}
 use denote.Signature.Array.{arrayOf}
 use denote.Struct.Laws as LL
 use denote.Triple.Walked.{gave-ref, goes-gave-ref}
-use Rattle.plan.specs.declared.NameAnswer.{NameAnswer}
-use Rattle.plan.specs.declared.Named.{Named}
-use Rattle.plan.specs.Naming.{naming, IsPart}
-use Rattle.plan.proofs.NameAnswer as S
-use Rattle.plan.proofs.NameAnswer.Laws as S′
-use Rattle.plan.proofs.Named as T
-use Rattle.plan.proofs.Named.Laws as T′
-use Rattle.plan.proofs.name as name
-use Rattle.plan.proofs.name.Symbol as name-def
-use Rattle.plan.proofs.name.Symbol.{name as #plan·name}
-use Rattle.plan.proofs.name.Met as name-thm
-use Rattle.exports.specs.PlanCodes.{nameCode, nameValues}
-use Rattle.exports.proofs.plan_calls.tell_name as tell
-use Rattle.exports.proofs.plan_calls.tell_name.Symbol as tell-def
-use Rattle.exports.proofs.plan_calls.tell_name.Symbol.{name as #tell-name}
-use Rattle.exports.proofs.plan_calls.tell_name.Met as tell-thm
+use Rattle.plan_format.specs.declared.NameAnswer.{NameAnswer}
+use Rattle.plan_naming.specs.declared.Named.{Named}
+use Rattle.plan_naming.specs.Naming.{naming, IsPart}
+use Rattle.plan_format.proofs.NameAnswer as S
+use Rattle.plan_format.proofs.NameAnswer.Laws as S′
+use Rattle.plan_naming.proofs.Named as T
+use Rattle.plan_naming.proofs.Named.Laws as T′
+use Rattle.plan_naming.proofs.name as name
+use Rattle.plan_naming.proofs.name.Symbol as name-def
+use Rattle.plan_naming.proofs.name.Symbol.{name as #plan-naming·name}
+use Rattle.plan_naming.proofs.name.Met as name-thm
+use Rattle.exports_codes.specs.PlanCodes.{nameCode, nameValues}
+use Rattle.exports_codes.proofs.plan_codes.tell_name as tell
+use Rattle.exports_codes.proofs.plan_codes.tell_name.Symbol as tell-def
+use Rattle.exports_codes.proofs.plan_codes.tell_name.Symbol.{name as #tell-name}
+use Rattle.exports_codes.proofs.plan_codes.tell_name.Met as tell-thm
 use Rattle.exports.proofs.plan_calls.plan_name.Key.{name as #plan-name}
 use Rattle.exports.proofs.plan_calls.plan_name as call
 use Rattle.exports.proofs.plan_calls.plan_name.Statement as stated
@@ -141,7 +141,7 @@ module _ {M : Type 1} (𝓤 : URA M) (H : Heap 𝓤) (A : Atoms 𝓤) (W : Given
   answer-is : (h : Named) (v : Val) → Is (T.the-row α) h (v ∷ []) → Is S.the-row (h .answer) (answered (h .answer) ∷ [])
   answer-is h v is = LL.owed (T.the-type α) (T′.the-laws α) h _ is .0
 
-  module _ (C : Calls 𝓤 H) (Λ : Loops 𝓤 H) (fm : FmC 𝓤 H (W .laws) C) (known-name : Triple 𝓤 (C #plan·name) (Name 𝓤 H A mem run))
+  module _ (C : Calls 𝓤 H) (Λ : Loops 𝓤 H) (fm : FmC 𝓤 H (W .laws) C) (known-name : Triple 𝓤 (C #plan-naming·name) (Name 𝓤 H A mem run))
       (known-tell : Triple 𝓤 (C #tell-name) (Tell 𝓤 H A mem run)) where
     walk : ent 𝓤 (onEntry 𝓤 H A call.signature (κ, (κ′, tt)) (q, (q′, tt)) a vals) (WpFn 𝓤 H C Λ code.function (xl ∷ kl ∷ zl ∷ []) Post)
     walk =
@@ -198,7 +198,7 @@ module _ {M : Type 1} (𝓤 : URA M) (H : Heap 𝓤) (A : Atoms 𝓤) (W : Given
         keep ! (3 ∷ 1 ∷ 4 ∷ 2 ∷ 0 ∷ []) $ by ! (exits (h .answer) c v′ (ws .1 .0) (e .0) e′)))))))))))))))))
 
 module _ {M : Type 1} (𝓤 : URA M) (H : Heap 𝓤) (A : Atoms 𝓤) (W : Given 𝓤 H A) (mem : Memory → SProp 𝓤) (run : Routine → Fun 𝓤) where
-  plan-name-walks : (C : Calls 𝓤 H) (Λ : Loops 𝓤 H) → FmC 𝓤 H (W .laws) C → Triple 𝓤 (C #plan·name) (Name 𝓤 H A mem run)
+  plan-name-walks : (C : Calls 𝓤 H) (Λ : Loops 𝓤 H) → FmC 𝓤 H (W .laws) C → Triple 𝓤 (C #plan-naming·name) (Name 𝓤 H A mem run)
       → Triple 𝓤 (C #tell-name) (Tell 𝓤 H A mem run) → Walks 𝓤 H A call.ended stayed (WpFn 𝓤 H C Λ code.function) (call.clauses 𝓤 H A mem run)
   plan-name-walks C Λ fm k₁ k₂ =
       walked 𝓤 H A call.ended stayed (call.clauses 𝓤 H A mem run) (WpFn 𝓤 H C Λ code.function) (λ κs. (slice-vals, (uint-vals w64, (ptr-vals, tt))))
@@ -208,7 +208,7 @@ module _ {M : Type 1} (𝓤 : URA M) (H : Heap 𝓤) (A : Atoms 𝓤) (W : Given
       (walk 𝓤 H A W mem run (κs .0) (κs .1 .0) (qs .0) (qs .1 .0) (a .0) (a .1 .0) (a .1 .1 .0) (are .0 .0 .1) (are .1 .0 .1) C Λ fm k₁ k₂))
 
 plan-name-meets : {M : Type 1} (𝓤 : URA M) (H : Heap 𝓤) (A : Atoms 𝓤) (W : Given 𝓤 H A) (mem : Memory → SProp 𝓤) (run : Routine → Fun 𝓤) (𝓣 : Tables 𝓤 H)
-    → Triple 𝓤 (𝓣 .C #plan·name) (Name 𝓤 H A mem run) → Triple 𝓤 (𝓣 .C #tell-name) (Tell 𝓤 H A mem run)
+    → Triple 𝓤 (𝓣 .C #plan-naming·name) (Name 𝓤 H A mem run) → Triple 𝓤 (𝓣 .C #tell-name) (Tell 𝓤 H A mem run)
     → Meets 𝓤 H A call.signature (WpFn 𝓤 H (𝓣 .C) (𝓣 .Λ) code.function) (call.spec 𝓤 H A mem run)
 plan-name-meets 𝓤 H A W mem run 𝓣 k₁ k₂ =
     walk-meets 𝓤 H A call.ended stayed W (
@@ -224,5 +224,5 @@ plan-name-spec 𝓤 H 𝓜 𝓖 𝓡 =
     entered 𝓤 H (tripleOf 𝓤 H (𝓖 .A) call.signature (call.spec 𝓤 H (𝓖 .A) (𝓜 .mem) (𝓡 .run))) (tables 𝓤 H 𝓜 𝓡 code.env .C) (tables 𝓤 H 𝓜 𝓡 code.env .Λ)
     #plan-name code.function (code.unfolded 𝓤 H 𝓜 𝓡)
     (plan-name-meets 𝓤 H (𝓖 .A) (givenOf 𝓤 H 𝓜 𝓖) (𝓜 .mem) (𝓡 .run) (tablesOf 𝓤 H 𝓜 (tables 𝓤 H 𝓜 𝓡 code.env))
-    (cited 𝓤 H (Name 𝓤 H (𝓖 .A) (𝓜 .mem) (𝓡 .run)) 𝓜 𝓡 code.env #plan·name name-def.routine code.calls-plan·name (name-thm.met 𝓤 H 𝓜 𝓖 𝓡))
-    (cited 𝓤 H (Tell 𝓤 H (𝓖 .A) (𝓜 .mem) (𝓡 .run)) 𝓜 𝓡 code.env #tell-name tell-def.routine code.calls-exports·plan-calls·tell-name (tell-thm.met 𝓤 H 𝓜 𝓖 𝓡)))
+    (cited 𝓤 H (Name 𝓤 H (𝓖 .A) (𝓜 .mem) (𝓡 .run)) 𝓜 𝓡 code.env #plan-naming·name name-def.routine code.calls-plan-naming·name (name-thm.met 𝓤 H 𝓜 𝓖 𝓡))
+    (cited 𝓤 H (Tell 𝓤 H (𝓖 .A) (𝓜 .mem) (𝓡 .run)) 𝓜 𝓡 code.env #tell-name tell-def.routine code.calls-exports-codes·plan-codes·tell-name (tell-thm.met 𝓤 H 𝓜 𝓖 𝓡)))

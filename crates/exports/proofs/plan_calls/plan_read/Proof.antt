@@ -1,14 +1,14 @@
 -- A walk by hand, with two calls and no branch: each borrow is given up to a callee, at its own lifetime, share and name.
-use Rattle.plan.proofs.Walk.{ !, Atoms, Calls, Contract, FmC, Fml, Fun, Given, Heap, Is, Lasts, Lft, List, Loops, Meets, Memory, MutSlice}
-use Rattle.plan.proofs.Walk.{RefT, Room, Routine, SProp, Share, ShrSlice, Stays, Tables, Triple, URA, Val, Walks, WpFn, WpFn-mono, [], _$_}
-use Rattle.plan.proofs.Walk.{_∵_, _∷_, _≡_, _⊛_, addr, agg, alloc0, alloc1, and-then, assigns, await, by, calls-at, cited, done, drop, emp}
-use Rattle.plan.proofs.Walk.{ends-at, ensured, ent, enter, entered, fact, feqL, finally, fjoin, fld, flft, fmOf, forget, frame, free0}
-use Rattle.plan.proofs.Walk.{free1, fres, from, fsplit, fst∗, ftrue, gave-slice, givenOf, goes-gave-slice, goes-none-slice, heard, hop, id⊢}
-use Rattle.plan.proofs.Walk.{init, join, keep, keeps, land, lasts, later, length, load, look, look-in, move, mut-slice-tells, named}
-use Rattle.plan.proofs.Walk.{no-more, nothing, onEntry, owns, params1, pass0, pass1, peeks, pick, plain, qed, raw, refl, returns, says, sem}
-use Rattle.plan.proofs.Walk.{sep, shows, shr-slice-copy, shr-slice-tells, slice-vals, sliceVal, some, split, stay-none-slice, stop, sub}
-use Rattle.plan.proofs.Walk.{suffices, tables, tablesOf, tripleOf, u64, u8, uint-lawful, use1, use2, via, w64, walk-meets, walkOf, walked}
-use Rattle.plan.proofs.Walk.{whole, ‵, ℕ, ⋆}
+use Rattle.plan_format.proofs.Walk.{ !, Atoms, Calls, Contract, FmC, Fml, Fun, Given, Heap, Is, Lasts, Lft, List, Loops, Meets, Memory, MutSlice}
+use Rattle.plan_format.proofs.Walk.{RefT, Room, Routine, SProp, Share, ShrSlice, Stays, Tables, Triple, URA, Val, Walks, WpFn, WpFn-mono, [], _$_}
+use Rattle.plan_format.proofs.Walk.{_∵_, _∷_, _≡_, _⊛_, addr, agg, alloc0, alloc1, and-then, assigns, await, by, calls-at, cited, done, drop, emp}
+use Rattle.plan_format.proofs.Walk.{ends-at, ensured, ent, enter, entered, fact, feqL, finally, fjoin, fld, flft, fmOf, forget, frame, free0}
+use Rattle.plan_format.proofs.Walk.{free1, fres, from, fsplit, fst∗, ftrue, gave-slice, givenOf, goes-gave-slice, goes-none-slice, heard, hop, id⊢}
+use Rattle.plan_format.proofs.Walk.{init, join, keep, keeps, land, lasts, later, length, load, look, look-in, move, mut-slice-tells, named}
+use Rattle.plan_format.proofs.Walk.{no-more, nothing, onEntry, owns, params1, pass0, pass1, peeks, pick, plain, qed, raw, refl, returns, says, sem}
+use Rattle.plan_format.proofs.Walk.{sep, shows, shr-slice-copy, shr-slice-tells, slice-vals, sliceVal, some, split, stay-none-slice, stop, sub}
+use Rattle.plan_format.proofs.Walk.{suffices, tables, tablesOf, tripleOf, u64, u8, uint-lawful, use1, use2, via, w64, walk-meets, walkOf, walked}
+use Rattle.plan_format.proofs.Walk.{whole, ‵, ℕ, ⋆}
 use denote.Array.{Array}
 use denote.Enum.Laws as EL
 use denote.RattleType.{RattleType}
@@ -18,22 +18,22 @@ use denote.Triple.Walked.{gave-ref, goes-gave-ref}
 use mathlib.Core.List.{_++_}
 use mir.Val.{vptr}
 use lib.ListN.{drop as dropN}
-use Rattle.plan.specs.declared.Station.{Station}
-use Rattle.plan.specs.declared.ReadAnswer.{ReadAnswer}
-use Rattle.plan.specs.Plan.{stationsFrom}
-use Rattle.plan.specs.Reading.{reading, readOf}
-use Rattle.plan.proofs.Station as T
-use Rattle.plan.proofs.ReadAnswer as E
-use Rattle.plan.proofs.ReadAnswer.Laws as E′
-use Rattle.plan.proofs.read as read
-use Rattle.plan.proofs.read.Symbol as read-def
-use Rattle.plan.proofs.read.Symbol.{name as #plan·read}
-use Rattle.plan.proofs.read.Met as read-thm
-use Rattle.exports.specs.PlanCodes.{readCode, readValues}
-use Rattle.exports.proofs.plan_calls.tell_read as tell
-use Rattle.exports.proofs.plan_calls.tell_read.Symbol as tell-def
-use Rattle.exports.proofs.plan_calls.tell_read.Symbol.{name as #tell-read}
-use Rattle.exports.proofs.plan_calls.tell_read.Met as tell-thm
+use Rattle.plan_format.specs.declared.Station.{Station}
+use Rattle.plan_format.specs.declared.ReadAnswer.{ReadAnswer}
+use Rattle.plan_format.specs.Plan.{stationsFrom}
+use Rattle.plan_format.specs.Reading.{reading, readOf}
+use Rattle.plan_format.proofs.Station as T
+use Rattle.plan_format.proofs.ReadAnswer as E
+use Rattle.plan_format.proofs.ReadAnswer.Laws as E′
+use Rattle.plan_reading.proofs.read as read
+use Rattle.plan_reading.proofs.read.Symbol as read-def
+use Rattle.plan_reading.proofs.read.Symbol.{name as #plan-reading·read}
+use Rattle.plan_reading.proofs.read.Met as read-thm
+use Rattle.exports_codes.specs.PlanCodes.{readCode, readValues}
+use Rattle.exports_codes.proofs.plan_codes.tell_read as tell
+use Rattle.exports_codes.proofs.plan_codes.tell_read.Symbol as tell-def
+use Rattle.exports_codes.proofs.plan_codes.tell_read.Symbol.{name as #tell-read}
+use Rattle.exports_codes.proofs.plan_codes.tell_read.Met as tell-thm
 use Rattle.exports.proofs.plan_calls.plan_read.Key.{name as #plan-read}
 use Rattle.exports.proofs.plan_calls.plan_read as call
 use Rattle.exports.proofs.plan_calls.plan_read.Statement as stated
@@ -127,7 +127,7 @@ module _ {M : Type 1} (𝓤 : URA M) (H : Heap 𝓤) (A : Atoms 𝓤) (W : Given
       → ent 𝓤 (sep 𝓤 (sep 𝓤 (A .lft κ″ q″) (sem 𝓤 H A ftrue)) (sem 𝓤 H A (Handed r v))) (Tell 𝓤 H A mem run .pre (to-tell r v))
   goes-tell r v = qed W ((‵ (flft κ″ q″) ⊛ ‵ ftrue) ∷ ‵ (Handed r v) ∷ []) ∵ join ! $ nothing ! $ move ! (1 ∷ 0 ∷ []) $ done !
 
-  module _ (C : Calls 𝓤 H) (Λ : Loops 𝓤 H) (fm : FmC 𝓤 H (W .laws) C) (known-read : Triple 𝓤 (C #plan·read) (Read 𝓤 H A mem run))
+  module _ (C : Calls 𝓤 H) (Λ : Loops 𝓤 H) (fm : FmC 𝓤 H (W .laws) C) (known-read : Triple 𝓤 (C #plan-reading·read) (Read 𝓤 H A mem run))
       (known-tell : Triple 𝓤 (C #tell-read) (Tell 𝓤 H A mem run)) where
     walk : ent 𝓤 (onEntry 𝓤 H A call.signature (κ, (κ′, (κ″, tt))) (q, (q′, (q″, tt))) a vals) (WpFn 𝓤 H C Λ code.function (xl ∷ yl ∷ zl ∷ []) Post)
     walk =
@@ -192,7 +192,7 @@ module _ {M : Type 1} (𝓤 : URA M) (H : Heap 𝓤) (A : Atoms 𝓤) (W : Given
         keep ! (3 ∷ 1 ∷ 5 ∷ 4 ∷ 2 ∷ 0 ∷ []) $ by ! (exits r (ss .1 .0) n v′ (ws .1 .0) e e′ l))))))))))))))))))))
 
 module _ {M : Type 1} (𝓤 : URA M) (H : Heap 𝓤) (A : Atoms 𝓤) (W : Given 𝓤 H A) (mem : Memory → SProp 𝓤) (run : Routine → Fun 𝓤) where
-  plan-read-walks : (C : Calls 𝓤 H) (Λ : Loops 𝓤 H) → FmC 𝓤 H (W .laws) C → Triple 𝓤 (C #plan·read) (Read 𝓤 H A mem run)
+  plan-read-walks : (C : Calls 𝓤 H) (Λ : Loops 𝓤 H) → FmC 𝓤 H (W .laws) C → Triple 𝓤 (C #plan-reading·read) (Read 𝓤 H A mem run)
       → Triple 𝓤 (C #tell-read) (Tell 𝓤 H A mem run) → Walks 𝓤 H A call.ended stayed (WpFn 𝓤 H C Λ code.function) (call.clauses 𝓤 H A mem run)
   plan-read-walks C Λ fm k₁ k₂ =
       walked 𝓤 H A call.ended stayed (call.clauses 𝓤 H A mem run) (WpFn 𝓤 H C Λ code.function) (λ κs. (slice-vals, (slice-vals, (ptr-vals, tt))))
@@ -206,7 +206,7 @@ module _ {M : Type 1} (𝓤 : URA M) (H : Heap 𝓤) (A : Atoms 𝓤) (W : Given
       (are .0 .0 .1) (are .1 .0 .0 .1) C Λ fm k₁ k₂))
 
 plan-read-meets : {M : Type 1} (𝓤 : URA M) (H : Heap 𝓤) (A : Atoms 𝓤) (W : Given 𝓤 H A) (mem : Memory → SProp 𝓤) (run : Routine → Fun 𝓤) (𝓣 : Tables 𝓤 H)
-    → Triple 𝓤 (𝓣 .C #plan·read) (Read 𝓤 H A mem run) → Triple 𝓤 (𝓣 .C #tell-read) (Tell 𝓤 H A mem run)
+    → Triple 𝓤 (𝓣 .C #plan-reading·read) (Read 𝓤 H A mem run) → Triple 𝓤 (𝓣 .C #tell-read) (Tell 𝓤 H A mem run)
     → Meets 𝓤 H A call.signature (WpFn 𝓤 H (𝓣 .C) (𝓣 .Λ) code.function) (call.spec 𝓤 H A mem run)
 plan-read-meets 𝓤 H A W mem run 𝓣 k₁ k₂ =
     walk-meets 𝓤 H A call.ended stayed W (
@@ -222,5 +222,5 @@ plan-read-spec 𝓤 H 𝓜 𝓖 𝓡 =
     entered 𝓤 H (tripleOf 𝓤 H (𝓖 .A) call.signature (call.spec 𝓤 H (𝓖 .A) (𝓜 .mem) (𝓡 .run))) (tables 𝓤 H 𝓜 𝓡 code.env .C) (tables 𝓤 H 𝓜 𝓡 code.env .Λ)
     #plan-read code.function (code.unfolded 𝓤 H 𝓜 𝓡)
     (plan-read-meets 𝓤 H (𝓖 .A) (givenOf 𝓤 H 𝓜 𝓖) (𝓜 .mem) (𝓡 .run) (tablesOf 𝓤 H 𝓜 (tables 𝓤 H 𝓜 𝓡 code.env))
-    (cited 𝓤 H (Read 𝓤 H (𝓖 .A) (𝓜 .mem) (𝓡 .run)) 𝓜 𝓡 code.env #plan·read read-def.routine code.calls-plan·read (read-thm.met 𝓤 H 𝓜 𝓖 𝓡))
-    (cited 𝓤 H (Tell 𝓤 H (𝓖 .A) (𝓜 .mem) (𝓡 .run)) 𝓜 𝓡 code.env #tell-read tell-def.routine code.calls-exports·plan-calls·tell-read (tell-thm.met 𝓤 H 𝓜 𝓖 𝓡)))
+    (cited 𝓤 H (Read 𝓤 H (𝓖 .A) (𝓜 .mem) (𝓡 .run)) 𝓜 𝓡 code.env #plan-reading·read read-def.routine code.calls-plan-reading·read (read-thm.met 𝓤 H 𝓜 𝓖 𝓡))
+    (cited 𝓤 H (Tell 𝓤 H (𝓖 .A) (𝓜 .mem) (𝓡 .run)) 𝓜 𝓡 code.env #tell-read tell-def.routine code.calls-exports-codes·plan-codes·tell-read (tell-thm.met 𝓤 H 𝓜 𝓖 𝓡)))

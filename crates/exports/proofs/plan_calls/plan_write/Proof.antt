@@ -1,36 +1,36 @@
 -- A walk by hand, with two calls and no branch: each borrow is given up to a callee, at its own lifetime, share and name.
-use Rattle.plan.proofs.Walk.{ !, Atoms, Calls, Contract, FmC, Fml, Fun, Given, Heap, Is, Lasts, Lft, List, Loops, Meets, Memory, MutSlice}
-use Rattle.plan.proofs.Walk.{RefT, Room, Routine, SProp, Share, ShrSlice, Stays, Tables, Triple, URA, Val, Walks, WpFn, WpFn-mono, [], _$_}
-use Rattle.plan.proofs.Walk.{_<_, _^_, _∵_, _∷_, _≡_, _⊛_, addr, agg, alloc0, alloc1, and-then, assigns, await, by, calls-at, cited, done}
-use Rattle.plan.proofs.Walk.{drop, emp, ends-at, ensured, ent, enter, entered, fact, feqL, finally, fjoin, fld, flft, fmOf, forget, frame}
-use Rattle.plan.proofs.Walk.{free0, free1, fres, from, fsplit, fst∗, ftrue, gave-slice, givenOf, goes-gave-slice, goes-none}
-use Rattle.plan.proofs.Walk.{goes-none-slice, heard, hop, id⊢, init, join, keep, keeps, land, lasts, later, length, load, look, look-in}
-use Rattle.plan.proofs.Walk.{move, mut-slice-tells, named, no-more, nothing, onEntry, owned, owns, params1, pass0, pass1, peeks, pick}
-use Rattle.plan.proofs.Walk.{plain, qed, raw, refl, returns, says, sem, sep, shows, shr-slice-copy, shr-slice-tells, slice-vals, sliceVal}
-use Rattle.plan.proofs.Walk.{some, split, stay-none, stay-none-slice, stop, sub, suffices, tables, tablesOf, tripleOf, u64, u8, uint-lawful}
-use Rattle.plan.proofs.Walk.{uint-makes, uint-tells, uint-vals, use1, use2, via, vint, vptr, w64, walk-meets, walkOf, walked, whole, ‵, ℕ}
-use Rattle.plan.proofs.Walk.{⋆}
+use Rattle.plan_format.proofs.Walk.{ !, Atoms, Calls, Contract, FmC, Fml, Fun, Given, Heap, Is, Lasts, Lft, List, Loops, Meets, Memory, MutSlice}
+use Rattle.plan_format.proofs.Walk.{RefT, Room, Routine, SProp, Share, ShrSlice, Stays, Tables, Triple, URA, Val, Walks, WpFn, WpFn-mono, [], _$_}
+use Rattle.plan_format.proofs.Walk.{_<_, _^_, _∵_, _∷_, _≡_, _⊛_, addr, agg, alloc0, alloc1, and-then, assigns, await, by, calls-at, cited, done}
+use Rattle.plan_format.proofs.Walk.{drop, emp, ends-at, ensured, ent, enter, entered, fact, feqL, finally, fjoin, fld, flft, fmOf, forget, frame}
+use Rattle.plan_format.proofs.Walk.{free0, free1, fres, from, fsplit, fst∗, ftrue, gave-slice, givenOf, goes-gave-slice, goes-none}
+use Rattle.plan_format.proofs.Walk.{goes-none-slice, heard, hop, id⊢, init, join, keep, keeps, land, lasts, later, length, load, look, look-in}
+use Rattle.plan_format.proofs.Walk.{move, mut-slice-tells, named, no-more, nothing, onEntry, owned, owns, params1, pass0, pass1, peeks, pick}
+use Rattle.plan_format.proofs.Walk.{plain, qed, raw, refl, returns, says, sem, sep, shows, shr-slice-copy, shr-slice-tells, slice-vals, sliceVal}
+use Rattle.plan_format.proofs.Walk.{some, split, stay-none, stay-none-slice, stop, sub, suffices, tables, tablesOf, tripleOf, u64, u8, uint-lawful}
+use Rattle.plan_format.proofs.Walk.{uint-makes, uint-tells, uint-vals, use1, use2, via, vint, vptr, w64, walk-meets, walkOf, walked, whole, ‵, ℕ}
+use Rattle.plan_format.proofs.Walk.{⋆}
 use denote.Array.{Array}
 use denote.Enum.Laws as EL
 use denote.RattleType.{RattleType}
 use denote.Ref.{MutRef, mut-tells, ptr-vals}
 use denote.Signature.Array.{arrayOf}
 use denote.Triple.Walked.{gave-ref, goes-gave-ref}
-use Rattle.plan.specs.declared.Station.{Station}
-use Rattle.plan.specs.declared.WriteAnswer.{WriteAnswer}
-use Rattle.plan.specs.Writing.{writing, planOf, chosen, left}
-use Rattle.plan.proofs.Station as T
-use Rattle.plan.proofs.WriteAnswer as E
-use Rattle.plan.proofs.WriteAnswer.Laws as E′
-use Rattle.plan.proofs.writer.write as write
-use Rattle.plan.proofs.writer.write.Symbol as write-def
-use Rattle.plan.proofs.writer.write.Symbol.{name as #plan·write}
-use Rattle.plan.proofs.writer.write.Met as write-thm
-use Rattle.exports.specs.PlanCodes.{writeCode, writeValues}
-use Rattle.exports.proofs.plan_calls.tell_write as tell
-use Rattle.exports.proofs.plan_calls.tell_write.Symbol as tell-def
-use Rattle.exports.proofs.plan_calls.tell_write.Symbol.{name as #tell-write}
-use Rattle.exports.proofs.plan_calls.tell_write.Met as tell-thm
+use Rattle.plan_format.specs.declared.Station.{Station}
+use Rattle.plan_format.specs.declared.WriteAnswer.{WriteAnswer}
+use Rattle.plan_format.specs.Writing.{writing, planOf, chosen, left}
+use Rattle.plan_format.proofs.Station as T
+use Rattle.plan_format.proofs.WriteAnswer as E
+use Rattle.plan_format.proofs.WriteAnswer.Laws as E′
+use Rattle.plan_writing.proofs.write as write
+use Rattle.plan_writing.proofs.write.Symbol as write-def
+use Rattle.plan_writing.proofs.write.Symbol.{name as #plan-writing·write}
+use Rattle.plan_writing.proofs.write.Met as write-thm
+use Rattle.exports_codes.specs.PlanCodes.{writeCode, writeValues}
+use Rattle.exports_codes.proofs.plan_codes.tell_write as tell
+use Rattle.exports_codes.proofs.plan_codes.tell_write.Symbol as tell-def
+use Rattle.exports_codes.proofs.plan_codes.tell_write.Symbol.{name as #tell-write}
+use Rattle.exports_codes.proofs.plan_codes.tell_write.Met as tell-thm
 use Rattle.exports.proofs.plan_calls.plan_write.Key.{name as #plan-write}
 use Rattle.exports.proofs.plan_calls.plan_write as call
 use Rattle.exports.proofs.plan_calls.plan_write.Statement as stated
@@ -128,7 +128,7 @@ module _ {M : Type 1} (𝓤 : URA M) (H : Heap 𝓤) (A : Atoms 𝓤) (W : Given
       → ent 𝓤 (sep 𝓤 (sep 𝓤 (A .lft κ″ q″) (sem 𝓤 H A ftrue)) (sem 𝓤 H A (Handed r v))) (Tell 𝓤 H A mem run .pre (to-tell r v))
   goes-tell r v = qed W ((‵ (flft κ″ q″) ⊛ ‵ ftrue) ∷ ‵ (Handed r v) ∷ []) ∵ join ! $ nothing ! $ move ! (1 ∷ 0 ∷ []) $ done !
 
-  module _ (C : Calls 𝓤 H) (Λ : Loops 𝓤 H) (fm : FmC 𝓤 H (W .laws) C) (known-write : Triple 𝓤 (C #plan·write) (Write 𝓤 H A mem run))
+  module _ (C : Calls 𝓤 H) (Λ : Loops 𝓤 H) (fm : FmC 𝓤 H (W .laws) C) (known-write : Triple 𝓤 (C #plan-writing·write) (Write 𝓤 H A mem run))
       (known-tell : Triple 𝓤 (C #tell-write) (Tell 𝓤 H A mem run)) where
     walk : ent 𝓤 (onEntry 𝓤 H A call.signature (κ, (κ′, (κ″, tt))) (q, (q′, (q″, tt))) a vals) (WpFn 𝓤 H C Λ code.function (xl ∷ nl ∷ yl ∷ zl ∷ []) Post)
     walk =
@@ -198,7 +198,7 @@ module _ {M : Type 1} (𝓤 : URA M) (H : Heap 𝓤) (A : Atoms 𝓤) (W : Given
         keep ! (3 ∷ 1 ∷ 5 ∷ 4 ∷ 2 ∷ 0 ∷ []) $ by ! (exits r (bs .1 .1 .0) c v′ (ws .1 .0) e e′ l)))))))))))))))))))))
 
 module _ {M : Type 1} (𝓤 : URA M) (H : Heap 𝓤) (A : Atoms 𝓤) (W : Given 𝓤 H A) (mem : Memory → SProp 𝓤) (run : Routine → Fun 𝓤) where
-  plan-write-walks : (C : Calls 𝓤 H) (Λ : Loops 𝓤 H) → FmC 𝓤 H (W .laws) C → Triple 𝓤 (C #plan·write) (Write 𝓤 H A mem run)
+  plan-write-walks : (C : Calls 𝓤 H) (Λ : Loops 𝓤 H) → FmC 𝓤 H (W .laws) C → Triple 𝓤 (C #plan-writing·write) (Write 𝓤 H A mem run)
       → Triple 𝓤 (C #tell-write) (Tell 𝓤 H A mem run) → Walks 𝓤 H A call.ended stayed (WpFn 𝓤 H C Λ code.function) (call.clauses 𝓤 H A mem run)
   plan-write-walks C Λ fm k₁ k₂ =
       walked 𝓤 H A call.ended stayed (call.clauses 𝓤 H A mem run) (WpFn 𝓤 H C Λ code.function)
@@ -213,7 +213,7 @@ module _ {M : Type 1} (𝓤 : URA M) (H : Heap 𝓤) (A : Atoms 𝓤) (W : Given
       (are .0 .0 .1) (are .1 .0 .1) (are .1 .1 .0 .0 .1) C Λ fm k₁ k₂))
 
 plan-write-meets : {M : Type 1} (𝓤 : URA M) (H : Heap 𝓤) (A : Atoms 𝓤) (W : Given 𝓤 H A) (mem : Memory → SProp 𝓤) (run : Routine → Fun 𝓤) (𝓣 : Tables 𝓤 H)
-    → Triple 𝓤 (𝓣 .C #plan·write) (Write 𝓤 H A mem run) → Triple 𝓤 (𝓣 .C #tell-write) (Tell 𝓤 H A mem run)
+    → Triple 𝓤 (𝓣 .C #plan-writing·write) (Write 𝓤 H A mem run) → Triple 𝓤 (𝓣 .C #tell-write) (Tell 𝓤 H A mem run)
     → Meets 𝓤 H A call.signature (WpFn 𝓤 H (𝓣 .C) (𝓣 .Λ) code.function) (call.spec 𝓤 H A mem run)
 plan-write-meets 𝓤 H A W mem run 𝓣 k₁ k₂ =
     walk-meets 𝓤 H A call.ended stayed W (
@@ -232,5 +232,5 @@ plan-write-spec 𝓤 H 𝓜 𝓖 𝓡 =
     entered 𝓤 H (tripleOf 𝓤 H (𝓖 .A) call.signature (call.spec 𝓤 H (𝓖 .A) (𝓜 .mem) (𝓡 .run))) (tables 𝓤 H 𝓜 𝓡 code.env .C) (tables 𝓤 H 𝓜 𝓡 code.env .Λ)
     #plan-write code.function (code.unfolded 𝓤 H 𝓜 𝓡)
     (plan-write-meets 𝓤 H (𝓖 .A) (givenOf 𝓤 H 𝓜 𝓖) (𝓜 .mem) (𝓡 .run) (tablesOf 𝓤 H 𝓜 (tables 𝓤 H 𝓜 𝓡 code.env))
-    (cited 𝓤 H (Write 𝓤 H (𝓖 .A) (𝓜 .mem) (𝓡 .run)) 𝓜 𝓡 code.env #plan·write write-def.routine code.calls-plan·writer·write (write-thm.met 𝓤 H 𝓜 𝓖 𝓡))
-    (cited 𝓤 H (Tell 𝓤 H (𝓖 .A) (𝓜 .mem) (𝓡 .run)) 𝓜 𝓡 code.env #tell-write tell-def.routine code.calls-exports·plan-calls·tell-write (tell-thm.met 𝓤 H 𝓜 𝓖 𝓡)))
+    (cited 𝓤 H (Write 𝓤 H (𝓖 .A) (𝓜 .mem) (𝓡 .run)) 𝓜 𝓡 code.env #plan-writing·write write-def.routine code.calls-plan-writing·write (write-thm.met 𝓤 H 𝓜 𝓖 𝓡))
+    (cited 𝓤 H (Tell 𝓤 H (𝓖 .A) (𝓜 .mem) (𝓡 .run)) 𝓜 𝓡 code.env #tell-write tell-def.routine code.calls-exports-codes·plan-codes·tell-write (tell-thm.met 𝓤 H 𝓜 𝓖 𝓡)))

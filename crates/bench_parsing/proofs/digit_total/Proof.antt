@@ -1,0 +1,134 @@
+-- What is read is the total of the digits that are passed: where it is over, so is the whole.
+use mathlib.Core.Path.{_≡_, sym, ap, _∙_}
+use mathlib.Core.List.{List}
+use Prim.Native.Nat.{ℕ, suc, _+_, _-_, _*_, _≤_, _<_}
+use native.Mathlib.Omega.{arith}
+use lib.ListN.{getD, drop}
+use borrow.Author.Tests.{le-leb, lt-leb}
+use Rattle.bench_parsing.specs.declared.Total.the-variants.{Over}
+use Rattle.bench_command.specs.Numeral.{count, total}
+use Rattle.bench_parsing.specs.Steps.{totalOf}
+use Rattle.bench_command.proofs.Numerals.{Digit, at-digit, sum-digit, digit-at, total-stops, stops-count, total-least}
+use Rattle.bench_parsing.proofs.digit_total.Statement.{statement}
+use Rattle.bench_parsing.proofs.digit_total.Tie as tie
+
+abbrev Inv-loop : tie.InvT-loop
+Inv-loop line at n v₀ k₀ v k =
+    (k ≤ n) × (v ≤ 18446744073709551615) × (total 0 (drop at line) ≡ total v (drop (at + k) line)) × (count (drop (at + k) line) ≡ n - k)
+
+abbrev μ-loop : tie.MeasureT-loop
+μ-loop line at n v₀ k₀ v k = n - k
+
+-- the byte of a turn is a digit
+digit : (c : tie.In-loop Inv-loop μ-loop) → Digit (c .before .before .args .line .now) (c .before .before .args .at + c .before .loop .k)
+digit c = digit-at _ _ (omega arith)
+
+over : (t : ℕ) → 18446744073709551615 < t → Over ≡ totalOf t
+over t h = rw (lt-leb t 18446744073709551615 h)
+
+-- what is left after a turn, and what it says
+left : (xs : List ℕ) (at k : ℕ) → Digit xs (at + k) → count (drop (at + k) xs) ≡ suc (count (drop (at + (k + 1)) xs))
+left xs at k d = at-digit xs (at + k) d ∙ ap (λ (m : ℕ). suc (count (drop m xs))) (let e : at + k + 1 ≡ at + (k + 1) = omega arith in e)
+
+sum : (xs : List ℕ) (at k v : ℕ) → Digit xs (at + k)
+    → total v (drop (at + k) xs) ≡ total (10 * v + (getD xs (at + k) 0 - 48)) (drop (at + (k + 1)) xs)
+sum xs at k v d =
+    sum-digit xs (at + k) v d
+    ∙ ap (λ (m : ℕ). total (10 * v + (getD xs (at + k) 0 - 48)) (drop m xs)) (let e : at + k + 1 ≡ at + (k + 1) = omega arith in e)
+
+loop-holds : tie.Need-loop-holds Inv-loop μ-loop
+loop-holds c =
+    let e : c .args .at ≡ c .args .at + 0 = omega arith in (
+      omega arith,
+      omega arith,
+      ap (λ (m : ℕ). total 0 (drop m (c .args .line .now))) e,
+      ap (λ (m : ℕ). count (drop m (c .args .line .now))) (sym e) ∙ sym (c .pre) ∙ omega arith,
+    )
+
+add-b : tie.Need-add-b Inv-loop μ-loop
+add-b c = let h = digit (c) in omega arith
+
+shared-slice-read-b : tie.Need-shared-slice-read-b Inv-loop μ-loop
+shared-slice-read-b c = let h = digit (c .before) in omega arith
+
+sub-d : tie.Need-sub-d Inv-loop μ-loop
+sub-d c = let h = digit (c .before) in omega arith
+
+cast-d : tie.Need-cast-d Inv-loop μ-loop
+cast-d c = let h = digit (c .before) in omega arith
+
+returns : tie.Need-returns Inv-loop μ-loop
+returns c =
+    let a = c .before .before .before .before .args in
+    let l = c .before .before .before .loop in
+    let xs = a .line .now in
+    let z = sum xs (a .at) (l .k) (l .v) (digit (c .before .before)) in
+    over (total 0 (drop (a .at) xs))
+    (omega (arith, total-least (10 * l .v + (getD xs (a .at + l .k) 0 - 48)) (drop (a .at + (l .k + 1)) xs), l .inv .2, z))
+
+sub-if2 : tie.Need-sub-if2 Inv-loop μ-loop
+sub-if2 c = let h = digit (c .before .before) in omega arith
+
+mul-if2 : tie.Need-mul-if2 Inv-loop μ-loop
+mul-if2 c = let h = digit (c .before .before) in omega arith
+
+returns-2 : tie.Need-returns-2 Inv-loop μ-loop
+returns-2 c =
+    let a = c .before .before .before .before .before .args in
+    let l = c .before .before .before .before .loop in
+    let xs = a .line .now in
+    let h = digit (c .before .before .before) in
+    let z = sum xs (a .at) (l .k) (l .v) h in
+    over (total 0 (drop (a .at) xs))
+    (omega (arith, total-least (10 * l .v + (getD xs (a .at + l .k) 0 - 48)) (drop (a .at + (l .k + 1)) xs), l .inv .2, z))
+
+mul-v : tie.Need-mul-v Inv-loop μ-loop
+mul-v c = let h = digit (c .before .before .before) in omega arith
+
+add-v : tie.Need-add-v Inv-loop μ-loop
+add-v c = let h = digit (c .before .before .before) in omega arith
+
+add-k : tie.Need-add-k Inv-loop μ-loop
+add-k c = omega arith
+
+loop-less : tie.Need-loop-less Inv-loop μ-loop
+loop-less c = omega arith
+
+loop-again : tie.Need-loop-again Inv-loop μ-loop
+loop-again c =
+    let a = c .before .before .before .before .before .args in
+    let l = c .before .before .before .before .loop in
+    let xs = a .line .now in
+    let h = digit (c .before .before .before) in
+    let z = left xs (a .at) (l .k) h in
+    (omega arith, omega arith, l .inv .2 ∙ sum xs (a .at) (l .k) (l .v) h, omega (arith, z, l .inv .3))
+
+returns-3 : tie.Need-returns-3 Inv-loop μ-loop
+returns-3 c =
+    let a = c .before .before .args in
+    let l = c .before .loop in
+    let z : count (drop (a .at + l .k) (a .line .now)) ≡ 0 = omega arith in
+    let e : l .v ≡ total 0 (drop (a .at) (a .line .now)) = sym (l .inv .2 ∙ total-stops (l .v) _ (stops-count _ z)) in
+    rw (← e, le-leb (l .v) 18446744073709551615 (l .inv .1))
+
+pub digit-total-spec : {M : Type 1} → statement M
+digit-total-spec =
+    tie.close
+    (tie.spec
+    Inv-loop
+    μ-loop
+    loop-holds
+    add-b
+    shared-slice-read-b
+    sub-d
+    cast-d
+    returns
+    sub-if2
+    mul-if2
+    returns-2
+    mul-v
+    add-v
+    add-k
+    loop-less
+    loop-again
+    returns-3)

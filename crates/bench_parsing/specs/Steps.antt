@@ -1,0 +1,26 @@
+-- What the private steps of reading ensure.
+use mathlib.Core.Path.{_≡_}
+use mathlib.Core.Bool.{Bool, true, false, cond}
+use mathlib.Core.List.{List, _∷_, _++_}
+use Prim.Native.Nat.{ℕ}
+use lib.Dec.{leb}
+use lib.ListN.{length, drop}
+use Rattle.bench_parsing.specs.declared.Total.{Total}
+use Rattle.bench_parsing.specs.declared.Total.the-variants.{Sum, Over}
+use Rattle.bench_parsing.specs.declared.Number.{Number}
+use Rattle.bench_parsing.specs.declared.Number.the-variants.{Value, Absent}
+use Rattle.bench_command.specs.Decimal.{decimal, Fits}
+
+-- whether a line begins with a word
+pub record Begins (word xs : List ℕ) (r : Bool) : Type 0 where
+  pub begun : r ≡ true → xs ≡ word ++ drop (length word) xs
+  pub other : r ≡ false → (rest : List ℕ) → xs ≡ word ++ rest → ⊥
+
+-- the number behind one space from byte `at` on, where nothing stands behind it
+pub record Lasts (xs : List ℕ) (at : ℕ) (r : Number) : Type 0 where
+  pub found : (v next : ℕ) → r ≡ Value v next → Fits v × (drop at xs ≡ 32 ∷ decimal v)
+  pub absent : r ≡ Absent → (v : ℕ) → Fits v → drop at xs ≡ 32 ∷ decimal v → ⊥
+
+-- a total that fits 64 bits
+abbrev pub totalOf : ℕ → Total
+totalOf t = cond (leb t 18446744073709551615) (Sum t) Over

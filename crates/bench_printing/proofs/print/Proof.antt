@@ -1,0 +1,15 @@
+-- A buffer of 96 bytes has room for every answer.
+use native.Mathlib.Omega.{arith}
+use borrow.Author.Needs.{needs}
+use Rattle.bench_printing.proofs.Room.{output-room, printed, too-short}
+use Rattle.bench_printing.proofs.print.Statement.{statement}
+use Rattle.bench_printing.proofs.print.Tie as tie
+
+returns : tie.Need-returns
+returns c = too-short _ _ (omega (arith, c .if1 .taken))
+
+returns-2 : tie.Need-returns-2
+returns-2 c = printed _ _ _ _ (output-room _) (omega (arith, c .before .before .before .before .if1 .left)) (c .before .before .fill .ensures)
+
+pub print-spec : {M : Type 1} → statement M
+print-spec = tie.close (tie.spec returns (λ c κs. search needs) (λ c. search needs) returns-2)

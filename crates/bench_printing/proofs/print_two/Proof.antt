@@ -1,0 +1,27 @@
+-- The parts of the line, one behind the other.
+use borrow.Author.Needs.{needs}
+use Rattle.bench_command.specs.Lines.{behind}
+use Rattle.bench_printing.proofs.Appending.{then, fills}
+use Rattle.bench_printing.proofs.print_two.Statement.{statement}
+use Rattle.bench_printing.proofs.print_two.Tie as tie
+
+returns : tie.Need-returns
+unfolding behind
+returns c =
+    let at-append-byte = c .before .before in
+    let at-append-behind2 = at-append-byte .before .before .before .before in
+    let at-append-behind = at-append-behind2 .before .before .before .before in
+    let at-append-word = at-append-behind .before .before .before .before in
+    let first = then (at-append-word .append-word .ensures) (at-append-behind .append-behind .ensures) in
+    fills _ _ _ _ (then (then first (at-append-behind2 .append-behind2 .ensures)) (at-append-byte .append-byte .ensures))
+
+pub print-two-spec : {M : Type 1} → statement M
+print-two-spec =
+    tie.close
+    (tie.spec
+    (λ c κs. search needs)
+    (λ c κs. search needs)
+    (λ c κs. search needs)
+    (λ c κs. search needs)
+    (λ c. search needs)
+    returns)

@@ -1,0 +1,143 @@
+// The lines of the bench's answers, and of a log's entries.
+
+ghost use mathlib.Core.Path.{_≡_};
+ghost use mathlib.Core.List.{[], _∷_, _++_};
+ghost use lib.ListN.{length};
+ghost use Rattle.bench_command.specs.Decimal.{decimal};
+ghost use Rattle.bench_command.specs.Lines.{behind, outputOf, entryLine};
+ghost use Rattle.bench_printing.specs.Printing.{Appends, Prints, Fills};
+use bench_command::Output;
+use line::Event;
+
+// The bytes that have room for every line.
+const ROOM: usize = 96;
+
+// A byte at a place of the line; answers the place behind it.
+fn append_byte(out: &mut [u8], at: usize, byte: u8) -> usize
+    ensures { λ r. ⌜ Appends (byte ∷ []) at (now (out .entry)) r (now (out .exit)) ⌝ }
+{
+    if at < out.len() {
+        out[at] = byte;
+        return at + 1;
+    }
+    at
+}
+
+fn append_word(out: &mut [u8], at: usize, word: &[u8]) -> usize
+    ensures { λ r. ⌜ Appends (now (word .entry)) at (now (out .entry)) r (now (out .exit)) ⌝ }
+{
+    let mut i = 0;
+    let mut end = at;
+    while i < word.len() {
+        end = append_byte(out, end, word[i]);
+        i += 1;
+    }
+    end
+}
+
+// How many decimal digits a number has.
+fn width(v: u64) -> usize
+    ensures { λ r. ⌜ r ≡ length (decimal v) ⌝ }
+{
+    let mut rest = v;
+    let mut n = 1;
+    while 9 < rest {
+        rest = rest / 10;
+        n += 1;
+    }
+    n
+}
+
+fn append_number(out: &mut [u8], at: usize, v: u64) -> usize
+    ensures { λ r. ⌜ Appends (decimal v) at (now (out .entry)) r (now (out .exit)) ⌝ }
+{
+    let n = width(v);
+    if out.len() < n {
+        return at;
+    }
+    if out.len() - n < at {
+        return at;
+    }
+    let mut rest = v;
+    let mut k = n;
+    while 0 < k {
+        k -= 1;
+        out[at + k] = (48 + rest % 10) as u8;
+        rest = rest / 10;
+    }
+    at + n
+}
+
+// A number behind one space.
+fn append_behind(out: &mut [u8], at: usize, v: u64) -> usize
+    ensures { λ r. ⌜ Appends (32 ∷ decimal v) at (now (out .entry)) r (now (out .exit)) ⌝ }
+{
+    let a = append_byte(out, at, 32);
+    append_number(out, a, v)
+}
+
+// The line of a word and a number, at the front of a buffer; answers its length.
+fn print_one(out: &mut [u8], word: &[u8], v: u64) -> usize
+    ensures { λ r. ⌜ Fills (behind (now (word .entry)) (v ∷ []) ++ 10 ∷ []) (now (out .entry)) r (now (out .exit)) ⌝ }
+{
+    let a = append_word(out, 0, word);
+    let c = append_behind(out, a, v);
+    append_byte(out, c, 10)
+}
+
+// The line of a word and two numbers.
+fn print_two(out: &mut [u8], word: &[u8], v: u64, w: u64) -> usize
+    ensures { λ r. ⌜ Fills (behind (now (word .entry)) (v ∷ w ∷ []) ++ 10 ∷ []) (now (out .entry)) r (now (out .exit)) ⌝ }
+{
+    let a = append_word(out, 0, word);
+    let c = append_behind(out, a, v);
+    let d = append_behind(out, c, w);
+    append_byte(out, d, 10)
+}
+
+// The line of an answer.
+fn fill(out: &mut [u8], o: Output) -> usize
+    ensures { λ r. ⌜ Fills (outputOf o) (now (out .entry)) r (now (out .exit)) ⌝ }
+{
+    match o {
+        Output::Post { number, undone } => print_two(out, b"post", number, undone),
+        Output::Retract { undone } => print_one(out, b"retract", undone),
+        Output::Run { station, undone } => print_two(out, b"run", station, undone),
+        Output::Commit { count } => print_one(out, b"commit", count),
+        Output::No { number } => print_one(out, b"no", number),
+    }
+}
+
+// The line of an answer, at the front of a buffer of 96 bytes or more; answers its length.
+pub fn print(out: &mut [u8], o: Output) -> usize
+    ensures { λ r. ⌜ Prints (outputOf o) (now (out .entry)) r (now (out .exit)) ⌝ }
+{
+    if out.len() < ROOM {
+        return 0;
+    }
+    fill(out, o)
+}
+
+// The line of a log's entry: time, target, kind, source, number, value.
+fn fill_entry(out: &mut [u8], e: Event) -> usize
+    ensures { λ r. ⌜ Fills (entryLine e) (now (out .entry)) r (now (out .exit)) ⌝ }
+{
+    let m = e.matter;
+    let a = append_number(out, 0, e.time);
+    let c = append_behind(out, a, e.target as u64);
+    let d = append_behind(out, c, line::kind_of(m) as u64);
+    let f = append_behind(out, d, e.source as u64);
+    let g = append_behind(out, f, e.number as u64);
+    let h = append_behind(out, g, line::value_of(m) as u64);
+    append_byte(out, h, 10)
+}
+
+// The line of a log's entry, into a buffer as for print.
+pub fn print_entry(out: &mut [u8], e: Event) -> usize
+    ensures { λ r. ⌜ Prints (entryLine e) (now (out .entry)) r (now (out .exit)) ⌝ }
+{
+    if out.len() < ROOM {
+        return 0;
+    }
+    fill_entry(out, e)
+}

@@ -1,0 +1,99 @@
+-- A commit is refused by the first of its four numbers that holds, and then nothing is changed.
+use mathlib.Core.Path.{_≡_, refl, sym, _∙_, subst}
+use mathlib.Core.Bool.{Bool, true, false, not}
+use mathlib.Core.List.{List}
+use Prim.Native.Nat.{ℕ, _+_, _*_, _≤_, _<_}
+use borrow.Author.Tests.{lt-ltb, le-ltb}
+use lib.ListN.{length}
+use Rattle.refusal.specs.declared.Refusal.{Refusal}
+use Rattle.refusal.specs.declared.Refusal.the-variants.{Space, Late, Early, Unrun, Output}
+use Rattle.refusal.specs.Numbers.{numberOf}
+use Rattle.refusal.specs.Tests.{horizon, accepted, refused, orNext, judged}
+use Rattle.words.specs.Le.{loadAt}
+use Rattle.line.specs.Station.{Plan}
+use Rattle.rules.specs.Held.{unrunBefore, logged}
+use Rattle.rules.specs.Engine.{Engine, Commit}
+use Rattle.rules.specs.Checks.{checks}
+use Rattle.rules.specs.Calls.{refuse}
+use Rattle.engine_events.specs.Holds.{fitsIn, Holds}
+use Rattle.engine_answers.specs.declared.CommitAnswer.the-variants.{Refused}
+use Rattle.engine_promises.specs.Represents.{Represents}
+use Rattle.engine_promises.specs.Said.{commitSaid}
+use Rattle.engine_promises.specs.Promises.{Commits}
+use Rattle.engine_promises.specs.Steps.{atMost}
+use Rattle.engine_committing.specs.Steps.{Counts}
+use Rattle.engine_committing.specs.Steps.{Early as SaysEarly}
+use Rattle.engine_promises.proofs.Header.{fits-read, unfit}
+
+-- ---- the numbers
+
+module _ (p : Plan) (e : Engine) (time : ℕ) (output : List ℕ) where
+  judged-late : horizon + 1 < time → judged (checks p e (Commit time output)) ≡ refused 11
+  unfolding checks judged orNext
+  judged-late h = rw (lt-ltb (horizon + 1) time h)
+
+  module _ (a : time ≤ horizon + 1) where
+    judged-early : time < e .now → judged (checks p e (Commit time output)) ≡ refused 12
+    unfolding checks judged orNext
+    judged-early h = rw (le-ltb (horizon + 1) time a, lt-ltb time (e .now) h)
+
+    module _ (b : e .now ≤ time) where
+      judged-unrun : unrunBefore time (e .queue .held) ≡ true → judged (checks p e (Commit time output)) ≡ refused 15
+      unfolding checks judged orNext
+      judged-unrun h = rw (le-ltb (horizon + 1) time a, le-ltb time (e .now) b, h)
+
+      module _ (d : unrunBefore time (e .queue .held) ≡ false) where
+        judged-short : length output < 24 * length (logged time (e .queue .held)) → judged (checks p e (Commit time output)) ≡ refused 18
+        unfolding checks judged orNext
+        judged-short h = rw (le-ltb (horizon + 1) time a, le-ltb time (e .now) b, d, lt-ltb (length output) (24 * length (logged time (e .queue .held))) h)
+
+        pub judged-passed : 24 * length (logged time (e .queue .held)) ≤ length output → judged (checks p e (Commit time output)) ≡ accepted
+        unfolding checks judged orNext
+        judged-passed h = rw (le-ltb (horizon + 1) time a, le-ltb time (e .now) b, d, le-ltb (length output) (24 * length (logged time (e .queue .held))) h)
+
+-- ---- the answers
+
+not-true : (r : Bool) → not r ≡ true → r ≡ false
+not-true true z = sym z
+not-true false z = refl
+
+module _ (time : ℕ) (xs output : List ℕ) where
+  abbrev Says : Refusal → Type 0
+  Says r = Commits (Commit time) (commitSaid (Refused r)) xs xs output output
+
+  refuses : (r : Refusal) → ((p : Plan) (e : Engine) → Represents p e xs → judged (checks p e (Commit time output)) ≡ refused (numberOf r)) → Says r
+  refuses r j = record {
+    answered = record { refusal = λ n k. refl; answer = λ p e R. record { after = e; answers = refuse (j p e R); represents = R } };
+    refusal = λ n k. refl;
+  }
+
+  pub says-late : horizon + 1 < time → Says Late
+  says-late h = refuses Late (λ p e R. judged-late p e time output h)
+
+  pub says-early : time ≤ horizon + 1 → time < loadAt 8 16 xs → Says Early
+  says-early a h = refuses Early (λ p e R. judged-early p e time output a (rw (R .now) at h))
+
+  module _ {n c : ℕ} (s : n ≡ atMost 256 (loadAt 8 0 xs)) (k : c ≡ atMost 4096 (loadAt 8 8 xs)) where
+    -- what the bytes hold, by the numbers that are read
+    pub holds-read : (p : Plan) (e : Engine) (R : Represents p e xs) → Holds p n c (e .now) xs (e .queue) (R .cells)
+    holds-read p e R =
+        let f = fits-read R s k in
+        subst (λ (i : ℕ). Holds p n i (e .now) xs (e .queue) (R .cells)) (f .1)
+        (subst (λ (i : ℕ). Holds p i (e .capacity) (e .now) xs (e .queue) (R .cells)) (f .0) (R .holds))
+
+    pub says-space : {r : Bool} → r ≡ fitsIn n c (length xs) → not r ≡ true → Says Space
+    says-space {r} f z = refuses Space (λ p e R. absurd (unfit s k f (not-true r z) R))
+
+    module _ (a : time ≤ horizon + 1) (b : loadAt 8 16 xs ≤ time) where
+      unrun-is : {r v : Bool} → SaysEarly n c xs time r → r ≡ v → (p : Plan) (e : Engine) → Represents p e xs → unrunBefore time (e .queue .held) ≡ v
+      unrun-is E z p e R = sym (E p (e .now) (e .queue) (R .cells) (holds-read p e R)) ∙ z
+
+      pub says-unrun : {r : Bool} → SaysEarly n c xs time r → r ≡ true → Says Unrun
+      says-unrun E z = refuses Unrun (λ p e R. judged-unrun p e time output a (rw (R .now) at b) (unrun-is E z p e R))
+
+      pub says-short : {r : Bool} {count : ℕ} → SaysEarly n c xs time r → r ≡ false → Counts n c xs time count → length output < 24 * count → Says Output
+      says-short E z C h =
+          refuses Output
+          (λ p e R.
+          let d = unrun-is E z p e R in
+          judged-short p e time output a (rw (R .now) at b) d (rw (C p (e .now) (e .queue) (R .cells) (holds-read p e R) d) at h))

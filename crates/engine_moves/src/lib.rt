@@ -1,0 +1,153 @@
+// One event is held, run, unrun, discarded or released: its slot with its index, its station's state and the calendar are changed together.
+//
+// The calendar is told the time of a station's first unrun event when that may have changed. Each function takes any bytes and any numbers; n stations and
+// c slots are the header's.
+
+ghost use mathlib.Core.Path.{_≡_};
+ghost use mathlib.Core.Bool.{true, false};
+ghost use Prim.Native.Nat.{_+_, _*_, _≤_, _<_};
+ghost use lib.ListN.{length};
+ghost use Rattle.rings.specs.Table.{Frame};
+ghost use Rattle.engine_events.specs.Count.{runsBelow};
+ghost use Rattle.engine_events.specs.Promises.{Behind, Tells, HoldsEvent, RunsEvent, UnrunsEvent, DiscardsEvent, ReleasesEvent, Raises, ClearsEvents};
+use line::Event;
+use line::State;
+
+// ---- the calendar
+
+// The calendar is told the time of a station's first unrun event.
+fn tell(b: &mut [u8], n: u16, c: u16, s: u16)
+    requires { ⌜ (n ≤ 256) × (c ≤ 4096) × (s < n) × (32768 + 256 * n + 256 * c ≤ length (now b)) ⌝ }
+    ensures frame { λ _. ⌜ Frame 64 (32768 + 64 * n) (now (b .entry)) (now (b .exit)) ⌝ }
+    ensures tells { λ _. ⌜ Tells n c s (now (b .entry)) (now (b .exit)) ⌝ }
+{
+    let end = 32832 + 64 * n as usize;
+    let x = engine_index::next(b, n, c, s);
+    if x == s {
+        calendar::unregister(&mut b[64..end], s as u64);
+        return;
+    }
+    let t = engine_rows::time(b, n, engine_index::slot(n, x));
+    calendar::register(&mut b[64..end], s as u64, t);
+}
+
+// ---- the changes
+
+// An event is held, unrun. Answers its node.
+pub fn hold(b: &mut [u8], n: u16, c: u16, e: Event) -> u16
+    ensures frame { λ _. ⌜ Behind (now (b .entry)) (now (b .exit)) ⌝ }
+    ensures takes { λ r. ⌜ HoldsEvent n c (now (b .entry)) e r (now (b .exit)) ⌝ }
+{
+    if engine_events::fits(b, n, c) {
+        let t = e.target;
+        if t < n {
+            let x = engine_filing::put(b, n, c, e);
+            tell(b, n, c, t);
+            return x;
+        }
+    }
+    0
+}
+
+// The first unrun event of its station, of node x, has run: its station's state is the one after it, and its sends are at these nodes.
+pub fn run(b: &mut [u8], n: u16, c: u16, x: u16, after: State, first: u16, second: u16)
+    ensures frame { λ _. ⌜ Behind (now (b .entry)) (now (b .exit)) ⌝ }
+    ensures runs { λ _. ⌜ RunsEvent n c (now (b .entry)) x after first second (now (b .exit)) ⌝ }
+{
+    if engine_events::fits(b, n, c) {
+        let i = engine_index::slot_in(b, n, c, x);
+        if i < c {
+            let e = engine_rows::event(b, n, i);
+            let t = e.target;
+            if t < n {
+                let v = engine_rows::state(b, n, t);
+                engine_rows::set_number(b, n, i, 0, first);
+                engine_rows::set_number(b, n, i, 1, second);
+                engine_filing::mark(b, n, c, x, v);
+                engine_rows::set_state(b, n, t, after);
+                tell(b, n, c, t);
+            }
+        }
+    }
+}
+
+// The last run event of its station, of node x, is unrun again, and the station's state is that from before it. False where x is no run event's node:
+// then nothing is done.
+pub fn unrun(b: &mut [u8], n: u16, c: u16, x: u16) -> bool
+    ensures frame { λ _. ⌜ Behind (now (b .entry)) (now (b .exit)) ⌝ }
+    ensures none { λ r. ⌜ (r ≡ false → now (b .exit) ≡ now (b .entry)) ⌝ }
+    ensures fewer { λ r. ⌜ (r ≡ true → 1 + runsBelow n (now (b .exit)) c ≤ runsBelow n (now (b .entry)) c) ⌝ }
+    ensures unruns { λ r. ⌜ UnrunsEvent n c (now (b .entry)) x r (now (b .exit)) ⌝ }
+{
+    if engine_events::fits(b, n, c) {
+        let i = engine_index::slot_in(b, n, c, x);
+        if i < c {
+            if engine_rows::number(b, n, i, 2) == 2 {
+                let e = engine_rows::event(b, n, i);
+                let t = e.target;
+                if t < n {
+                    let v = engine_rows::saved(b, n, i);
+                    engine_freeing::unmark(b, n, c, x);
+                    engine_rows::set_state(b, n, t, v);
+                    tell(b, n, c, t);
+                    return true;
+                }
+            }
+        }
+    }
+    false
+}
+
+// The unrun event of node x leaves.
+pub fn discard(b: &mut [u8], n: u16, c: u16, x: u16)
+    ensures frame { λ _. ⌜ Behind (now (b .entry)) (now (b .exit)) ⌝ }
+    ensures fewer { λ _. ⌜ runsBelow n (now (b .exit)) c ≤ runsBelow n (now (b .entry)) c ⌝ }
+    ensures leaves { λ _. ⌜ DiscardsEvent n c (now (b .entry)) x (now (b .exit)) ⌝ }
+{
+    if engine_events::fits(b, n, c) {
+        let i = engine_index::slot_in(b, n, c, x);
+        if i < c {
+            let e = engine_rows::event(b, n, i);
+            let t = e.target;
+            if t < n {
+                engine_freeing::drop(b, n, c, x);
+                tell(b, n, c, t);
+            }
+        }
+    }
+}
+
+// The first of all held events, a run one, of node x, leaves.
+pub fn release(b: &mut [u8], n: u16, c: u16, x: u16)
+    ensures frame { λ _. ⌜ Behind (now (b .entry)) (now (b .exit)) ⌝ }
+    ensures releases { λ _. ⌜ ReleasesEvent n c (now (b .entry)) x (now (b .exit)) ⌝ }
+{
+    engine_freeing::release(b, n, c, x);
+}
+
+// The commit time is raised.
+pub fn raise(b: &mut [u8], n: u16, c: u16, floor: u64)
+    ensures frame { λ _. ⌜ Behind (now (b .entry)) (now (b .exit)) ⌝ }
+    ensures raises { λ _. ⌜ Raises n c floor (now (b .entry)) (now (b .exit)) ⌝ }
+{
+    if engine_events::fits(b, n, c) {
+        if 0 < n {
+            let end = 32832 + 64 * n as usize;
+            calendar::advance(&mut b[64..end], floor);
+        }
+    }
+}
+
+// No event is held.
+pub fn clear(b: &mut [u8], n: u16, c: u16, width: u64)
+    ensures frame { λ _. ⌜ Behind (now (b .entry)) (now (b .exit)) ⌝ }
+    ensures clears { λ _. ⌜ ClearsEvents n c width (now (b .entry)) (now (b .exit)) ⌝ }
+{
+    if engine_events::fits(b, n, c) {
+        if 0 < n {
+            let end = 32832 + 64 * n as usize;
+            calendar::open(n as u64, width, &mut b[64..end]);
+            engine_freeing::clear(b, n, c);
+        }
+    }
+}

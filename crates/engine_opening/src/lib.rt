@@ -1,0 +1,70 @@
+// The engine's opening: a plan's line, on one lent buffer.
+//
+// A call first judges, by reading alone, and then changes: so a refusal leaves the buffer as it was. Each takes any bytes; a buffer that is too short for the
+// numbers of its own header, which no opening leaves so, is refused with 7.
+
+ghost use Prim.Native.Nat.{_≤_};
+ghost use Rattle.engine_promises.specs.Promises.{Opens};
+ghost use Rattle.engine_opening.specs.Steps.{Begun};
+use engine_answers::OpenAnswer;
+use line::State;
+use plan::ReadAnswer;
+use refusal::Refusal;
+
+// ---- open
+
+// Stations 0 to n - 1 get the plan's numbers and their first states.
+fn begin_stations(plan: &[u8], b: &mut [u8], n: u16)
+    requires { ⌜ n ≤ 256 ⌝ }
+    ensures { λ _. ⌜ Begun (now (plan .entry)) n (now (b .entry)) (now (b .exit)) ⌝ }
+{
+    let mut s: u16 = 0;
+    while s < n {
+        let g = plan::config_at(plan, s);
+        engine_rows::set_config(b, n, s, g);
+        let v = State {
+            draw: g.seed,
+            level: 0,
+            heard: 0,
+            lost: 0,
+            sent: 0,
+        };
+        engine_rows::set_state(b, n, s, v);
+        s += 1;
+    }
+}
+
+// The plan's line starts at time 0, with no event held.
+pub fn open(plan: &[u8], width: u64, capacity: u64, b: &mut [u8]) -> OpenAnswer
+    ensures { λ r. ⌜ Opens (now (plan .entry)) width capacity (now (b .entry)) r (now (b .exit)) ⌝ }
+{
+    let a = plan::judge(plan);
+    match a {
+        ReadAnswer::Refused(e) => OpenAnswer::Refused(e),
+        ReadAnswer::Stations(n) => {
+            if width < 1 {
+                return OpenAnswer::Refused(Refusal::Width);
+            }
+            if 1048576 < width {
+                return OpenAnswer::Refused(Refusal::Width);
+            }
+            if capacity < 2 {
+                return OpenAnswer::Refused(Refusal::Space);
+            }
+            if 4096 < capacity {
+                return OpenAnswer::Refused(Refusal::Space);
+            }
+            if b.len() < 32768 + 256 * n + 256 * capacity as usize {
+                return OpenAnswer::Refused(Refusal::Space);
+            }
+            let m = n as u16;
+            begin_stations(plan, b, m);
+            engine_rows::set_header(b, 0, n as u64);
+            engine_rows::set_header(b, 1, capacity);
+            engine_rows::set_header(b, 2, 0);
+            engine_rows::set_header(b, 3, 0);
+            engine_moves::clear(b, m, capacity as u16, width);
+            OpenAnswer::Done
+        }
+    }
+}

@@ -1,0 +1,6 @@
+pub mod Posting
+pub mod PostTest
+pub mod EverySlot
+pub mod PostSlots
+pub mod OnePost
+pub mod Retracting

@@ -1,0 +1,118 @@
+// Post and retract: an event from outside is added, or leaves again.
+//
+// A call first judges, by reading alone, and then changes: so a refusal leaves the buffer as it was. Each takes any bytes; a buffer that is too short for the
+// numbers of its own header, which no opening leaves so, is refused with 7.
+
+ghost use mathlib.Core.Path.{_≡_};
+ghost use Prim.Native.Nat.{_≤_};
+ghost use Rattle.rules.specs.Engine.Call.{Post, Retract};
+ghost use Rattle.engine_promises.specs.Said.{postSaid, retractSaid};
+ghost use Rattle.engine_promises.specs.Promises.{Answered};
+ghost use Rattle.engine_promises.specs.Steps.{Full};
+ghost use Rattle.engine_posting.specs.Steps.{isPostAt, FindsPost};
+use engine_answers::PostAnswer;
+use engine_answers::RetractAnswer;
+use line::Event;
+use line::Meant;
+use refusal::HORIZON;
+use refusal::Refusal;
+
+// ---- post
+
+// Is no place free?
+fn full(b: &[u8], n: u16, c: u16) -> bool
+    requires { ⌜ n ≤ 256 ⌝ }
+    ensures { λ r. ⌜ Full n c (now (b .entry)) r ⌝ }
+{
+    engine_index::next(b, n, c, 2 * n) == 2 * n
+}
+
+// An unrun event is added. Its source is a post, and its number the next.
+pub fn post(b: &mut [u8], station: u64, time: u64, kind: u64, value: u64) -> PostAnswer
+    ensures { λ r. ⌜ Answered (Post station time kind value) (postSaid r) (now (b .entry)) (now (b .exit)) ⌝ }
+{
+    let n = engine_promises::stations(b);
+    let c = engine_promises::capacity(b);
+    if !engine_events::fits(b, n, c) {
+        return PostAnswer::Refused(Refusal::Space);
+    }
+    if n as u64 <= station {
+        return PostAnswer::Refused(Refusal::Station);
+    }
+    let Meant::Means(m) = line::matter_of(n, kind, value) else {
+        return PostAnswer::Refused(Refusal::Matter);
+    };
+    if HORIZON < time {
+        return PostAnswer::Refused(Refusal::Late);
+    }
+    if time < engine_rows::header(b, 2) {
+        return PostAnswer::Refused(Refusal::Early);
+    }
+    let number = engine_rows::header(b, 3);
+    if 4294967295 < number {
+        return PostAnswer::Refused(Refusal::Count);
+    }
+    if full(b, n, c) {
+        return PostAnswer::Refused(Refusal::Full);
+    }
+    let e = Event {
+        time,
+        target: station as u16,
+        source: line::POSTED,
+        number: number as u32,
+        matter: m,
+    };
+    let added = engine_rollback::add(b, n, c, e);
+    engine_rows::set_header(b, 3, number + 1);
+    let undone = added.undone;
+    PostAnswer::Done { number, undone }
+}
+
+// ---- retract
+
+// Does the slot hold the post with that number?
+fn is_post(b: &[u8], n: u16, i: u16, number: u64) -> bool
+    ensures { λ r. ⌜ r ≡ isPostAt (now (b .entry)) n i number ⌝ }
+{
+    if engine_rows::number(b, n, i, 2) == 0 {
+        return false;
+    }
+    let e = engine_rows::event(b, n, i);
+    if e.source == line::POSTED {
+        return e.number as u64 == number;
+    }
+    false
+}
+
+// The node of the held post with that number; 0 where there is none.
+fn find_post(b: &[u8], n: u16, c: u16, number: u64) -> u16
+    requires { ⌜ (n ≤ 256) × (c ≤ 4096) ⌝ }
+    ensures { λ r. ⌜ FindsPost n c number (now (b .entry)) r ⌝ }
+{
+    let mut i: u16 = 0;
+    while i < c {
+        if is_post(b, n, i, number) {
+            return 2 * n + 1 + i;
+        }
+        i += 1;
+    }
+    0
+}
+
+// The held post with that number is removed.
+pub fn retract(b: &mut [u8], number: u64) -> RetractAnswer
+    ensures { λ r. ⌜ Answered (Retract number) (retractSaid r) (now (b .entry)) (now (b .exit)) ⌝ }
+{
+    let n = engine_promises::stations(b);
+    let c = engine_promises::capacity(b);
+    if !engine_events::fits(b, n, c) {
+        return RetractAnswer::Refused(Refusal::Space);
+    }
+    let x = find_post(b, n, c, number);
+    if x == 0 {
+        return RetractAnswer::Refused(Refusal::Post);
+    }
+    RetractAnswer::Done {
+        undone: engine_rollback::remove(b, n, c, x),
+    }
+}

@@ -1,0 +1,95 @@
+-- The header's words: what lies behind them stays when one is stored, and they stay when what lies behind them changes.
+use mathlib.Core.Path.{_≡_, sym, _∙_}
+use mathlib.Core.Logic.{_≢_, inl, inr}
+use mathlib.Core.Bool.{Bool, true, false, true≢false}
+use mathlib.Core.List.{List}
+use Prim.Native.Nat.{ℕ, _+_, _*_, _^_, _≤_, _<_}
+use native.Mathlib.Omega.{arith}
+use borrow.Author.Tests.{le-ltb}
+use lib.ListN.{length, getD, drop, length-take, length-drop}
+use lib.Seq.{getD-take, getD-drop, ext-getD}
+use Rattle.words.specs.Le.{loadAt, storeAt}
+use Rattle.words.proofs.Laws.{load-stored, load-other}
+use Rattle.line.specs.Station.{Plan}
+use Rattle.rules.specs.Held.{Queue}
+use Rattle.rules.specs.Engine.{Engine}
+use Rattle.rings.specs.Table.{Frame}
+use Rattle.rings.proofs.Frames.{store-frame, frame-wider}
+use Rattle.engine_rows.proofs.Rows.{words}
+use Rattle.engine_index.specs.Stands.{Cell}
+use Rattle.engine_events.specs.Holds.{part, fitsIn, Holds}
+use Rattle.engine_events.specs.Promises.{Behind}
+use Rattle.engine_events.proofs.Parts.{byte-kept}
+use Rattle.engine_events.proofs.Keeps.{stores-kept}
+use Rattle.engine_events.proofs.Fitting.{stores-fit}
+use Rattle.engine_promises.specs.Represents.{Represents}
+use Rattle.engine_promises.specs.Steps.{atMost}
+
+-- ---- words
+
+-- a store to word i
+pub header-frame : (i v : ℕ) (xs : List ℕ) → i < 8 → Frame 0 64 xs (storeAt 8 (8 * i) v xs)
+header-frame i v xs h = frame-wider 0 64 (omega arith) (omega arith) (store-frame 8 (8 * i) v xs)
+
+pub header-word : (i v : ℕ) (xs : List ℕ) → i < 8 → 64 ≤ length xs → v < 2 ^ 64 → loadAt 8 (8 * i) (storeAt 8 (8 * i) v xs) ≡ v
+header-word i v xs h l w = load-stored 8 (8 * i) v xs (omega arith) w
+
+pub header-other : (i j v : ℕ) (xs : List ℕ) → i ≢ j → loadAt 8 (8 * j) (storeAt 8 (8 * i) v xs) ≡ loadAt 8 (8 * j) xs
+header-other i j v xs d = load-other 8 8 (8 * i) v xs (8 * j) (words i j d)
+
+pub header-kept : {xs ys : List ℕ} → Behind xs ys → (i : ℕ) → i < 8 → loadAt 8 (8 * i) ys ≡ loadAt 8 (8 * i) xs
+header-kept F i h = F .loads 8 (8 * i) (inr (omega arith))
+
+-- ---- what lies behind
+
+part-same : {xs ys : List ℕ} (n : ℕ) → Frame 0 64 xs ys → part n ys ≡ part n xs
+part-same {xs} {ys} n F =
+    ext-getD 0 (part n ys) (part n xs) (simp (length-take, length-drop) (rw (F .size)))
+    (λ i p. at i ys (omega (arith, long ys)) ∙ byte-kept (64 + i) F (inl (omega arith)) ∙ sym (at i xs (omega (arith, long ys))))
+  where
+    long : (zs : List ℕ) → length (part n zs) ≤ 32768 + 64 * n
+    long zs = simp (length-take, length-drop) (omega arith)
+
+    at : (i : ℕ) (zs : List ℕ) → i < 32768 + 64 * n → getD (part n zs) i 0 ≡ getD zs (64 + i) 0
+    at i zs p = getD-take (32768 + 64 * n) (drop 64 zs) i 0 p ∙ getD-drop 64 zs i 0
+
+pub header-holds : {p : Plan} {n c now : ℕ} {xs ys : List ℕ} {q : Queue} {cells : List Cell} → Frame 0 64 xs ys → Holds p n c now xs q cells
+    → Holds p n c now ys q cells
+header-holds {n = n} {xs = xs} {ys = ys} F H =
+    let e : part n ys ≡ part n xs = part-same n F in
+    let C = H .calendar in
+    record {
+      stores = stores-kept F (omega arith) (H .stores);
+      calendar = record { sound = rw e (C .sound); floor = rw e (C .floor); shows = rw e (C .shows) };
+    }
+
+-- ---- what the header says of an engine
+
+module _ {p : Plan} {e : Engine} {xs : List ℕ} (R : Represents p e xs) where
+  pub stations-few : p .count ≤ 256
+  stations-few = R .holds .stores .stands .stations
+
+  pub capacity-few : e .capacity ≤ 4096
+  capacity-few = R .holds .stores .stands .capacity
+
+  pub read-stations : atMost 256 (loadAt 8 0 xs) ≡ p .count
+  read-stations = rw (R .stations, le-ltb 256 (p .count) stations-few)
+
+  pub read-capacity : atMost 4096 (loadAt 8 8 xs) ≡ e .capacity
+  read-capacity = rw (R .capacity, le-ltb 4096 (e .capacity) capacity-few)
+
+  pub long-enough : fitsIn (p .count) (e .capacity) (length xs) ≡ true
+  long-enough = stores-fit (R .holds .stores)
+
+  -- as a call reads it
+  pub fits-read : {n c : ℕ} → n ≡ atMost 256 (loadAt 8 0 xs) → c ≡ atMost 4096 (loadAt 8 8 xs)
+      → (p .count ≡ n) × (e .capacity ≡ c) × (fitsIn n c (length xs) ≡ true)
+  fits-read {n} {c} s k =
+      let a : p .count ≡ n = sym read-stations ∙ sym s in
+      let b : e .capacity ≡ c = sym read-capacity ∙ sym k in
+      (a, b, rw (a, b) at long-enough)
+
+-- no engine where the test fails
+pub unfit : {p : Plan} {e : Engine} {xs : List ℕ} {n c : ℕ} {r : Bool} → n ≡ atMost 256 (loadAt 8 0 xs) → c ≡ atMost 4096 (loadAt 8 8 xs)
+    → r ≡ fitsIn n c (length xs) → r ≡ false → Represents p e xs → ⊥
+unfit s k f z R = true≢false (sym (fits-read R s k .2) ∙ sym f ∙ z)

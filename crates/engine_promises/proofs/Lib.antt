@@ -1,0 +1,9 @@
+pub mod Standing
+pub mod Header
+pub mod Bounds
+pub mod Unfit
+pub mod Refusing
+pub mod Verdicts
+pub mod FreePlaces
+pub mod FoundSlots
+pub mod NewEvents

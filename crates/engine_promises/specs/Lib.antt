@@ -1,0 +1,4 @@
+pub mod Represents
+pub mod Said
+pub mod Promises
+pub mod Steps

@@ -1,0 +1,31 @@
+-- The engine that the bytes of a buffer stand for.
+use mathlib.Core.Path.{_≡_}
+use mathlib.Core.List.{List}
+use Prim.Native.Nat.{ℕ}
+use Rattle.words.specs.Le.{loadAt}
+use Rattle.line.specs.Station.{Plan, InRange}
+use Rattle.rules.specs.Engine.{Engine, opened}
+use Rattle.rules.specs.Demand.{Made, Calls}
+use Rattle.plan_format.specs.Plan.{count, stationAt}
+use Rattle.engine_index.specs.Stands.{Cell}
+use Rattle.engine_events.specs.Holds.{Holds}
+
+-- the line of a plan's bytes
+unfoldable pub lineOf : List ℕ → Plan
+lineOf plan = record { count = count plan; config = λ s. stationAt plan s .config }
+
+-- an engine that the rules make of an opening and calls after it
+pub record Reached (p : Plan) (e : Engine) : Type 0 where
+  pub calls : List Made
+  pub made : Calls p (opened p (e .capacity)) calls e
+
+-- the header's words: stations, capacity, commit time and the next post's number; behind them the queue
+pub record Represents (p : Plan) (e : Engine) (xs : List ℕ) : Type 0 where
+  pub range : InRange p
+  pub reached : Reached p e
+  pub stations : loadAt 8 0 xs ≡ p .count
+  pub capacity : loadAt 8 8 xs ≡ e .capacity
+  pub now : loadAt 8 16 xs ≡ e .now
+  pub next : loadAt 8 24 xs ≡ e .next
+  pub cells : List Cell
+  pub holds : Holds p (p .count) (e .capacity) (e .now) xs (e .queue) cells

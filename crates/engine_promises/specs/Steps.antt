@@ -1,0 +1,30 @@
+-- What the calls' private steps ensure; no promise to a caller cites these.
+use mathlib.Core.Path.{_≡_}
+use mathlib.Core.Bool.{Bool, cond}
+use mathlib.Core.List.{List}
+use Prim.Native.Nat.{ℕ, suc, _+_, _≤_}
+use lib.Dec.{ltb, leb}
+use lib.ListN.{length}
+use Rattle.line.specs.Station.{Plan}
+use Rattle.rules.specs.Held.{Queue}
+use Rattle.engine_index.specs.Stands.{Cell}
+use Rattle.engine_events.specs.Holds.{Holds}
+
+-- ---- the header
+
+-- a word that is at most m; m + 1 where it is more
+abbrev pub atMost : ℕ → ℕ → ℕ
+atMost m w = cond (ltb m w) (suc m) w
+
+-- ---- post
+
+-- is no place free?
+abbrev pub Full : ℕ → ℕ → List ℕ → Bool → Type 0
+Full n c xs r = (p : Plan) (now : ℕ) (q : Queue) (cells : List Cell) → Holds p n c now xs q cells → r ≡ leb c (length cells)
+
+-- ---- run
+
+-- so many places are free, and 2 where more are
+abbrev pub HasRoom : ℕ → ℕ → List ℕ → ℕ → Type 0
+HasRoom n c xs r =
+    (p : Plan) (now : ℕ) (q : Queue) (cells : List Cell) → Holds p n c now xs q cells → (m : ℕ) → m ≤ 2 → leb m r ≡ leb (length cells + m) c

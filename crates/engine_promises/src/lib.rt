@@ -1,0 +1,29 @@
+// What each call of the engine promises, and the two numbers of a line that every call reads first.
+
+ghost use mathlib.Core.Path.{_≡_};
+ghost use Rattle.words.specs.Le.{loadAt};
+ghost use Rattle.engine_promises.specs.Steps.{atMost};
+
+// ---- the header: stations, capacity, commit time, number of the next post
+
+// The number of stations; 257 where it is more than 256.
+pub fn stations(b: &[u8]) -> u16
+    ensures { λ r. ⌜ r ≡ atMost 256 (loadAt 8 0 (now (b .entry))) ⌝ }
+{
+    let n = engine_rows::header(b, 0);
+    if 256 < n {
+        return 257;
+    }
+    n as u16
+}
+
+// The number of slots; 4097 where it is more than 4096.
+pub fn capacity(b: &[u8]) -> u16
+    ensures { λ r. ⌜ r ≡ atMost 4096 (loadAt 8 8 (now (b .entry))) ⌝ }
+{
+    let c = engine_rows::header(b, 1);
+    if 4096 < c {
+        return 4097;
+    }
+    c as u16
+}

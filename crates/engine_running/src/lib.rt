@@ -1,0 +1,128 @@
+// Run station and run lowest: the first unrun event of a station is run.
+//
+// A call first judges, by reading alone, and then changes: so a refusal leaves the buffer as it was. Each takes any bytes; a buffer that is too short for the
+// numbers of its own header, which no opening leaves so, is refused with 7.
+
+ghost use mathlib.Core.Path.{_≡_};
+ghost use Prim.Native.Nat.{_≤_};
+ghost use lib.ListN.{length};
+ghost use Rattle.rules.specs.Engine.Call.{RunStation, RunLowest};
+ghost use Rattle.engine_promises.specs.Said.{runSaid};
+ghost use Rattle.engine_promises.specs.Promises.{Answered};
+ghost use Rattle.engine_promises.specs.Steps.{HasRoom};
+ghost use Rattle.engine_running.specs.Steps.{AddsSend, RunsAt};
+ghost use Rattle.line.specs.Answer.{sendsOf};
+ghost use Rattle.engine_events.specs.Promises.{Behind};
+use calendar::Least;
+use engine_answers::RunAnswer;
+use engine_rollback::Added;
+use line::Ran;
+use line::Sending;
+use refusal::Refusal;
+
+// ---- run
+
+// How many events a place for a send has.
+fn sends(s: Sending) -> u16
+    ensures { λ r. ⌜ r ≡ length (sendsOf s) ⌝ }
+{
+    match s {
+        Sending::Nothing => 0,
+        Sending::Sends(_) => 1,
+    }
+}
+
+// How many places are free; 2 where more are.
+fn free_places(b: &[u8], n: u16, c: u16) -> u16
+    requires { ⌜ n ≤ 256 ⌝ }
+    ensures { λ r. ⌜ HasRoom n c (now (b .entry)) r ⌝ }
+{
+    let x = engine_index::next(b, n, c, 2 * n);
+    if x == 2 * n {
+        return 0;
+    }
+    if engine_index::next(b, n, c, x) == 2 * n {
+        return 1;
+    }
+    2
+}
+
+// A send is added, where there is one; its node is 0 where there is none.
+fn add_send(b: &mut [u8], n: u16, c: u16, s: Sending) -> Added
+    ensures frame { λ _. ⌜ Behind (now (b .entry)) (now (b .exit)) ⌝ }
+    ensures few { λ r. ⌜ r .undone ≤ c ⌝ }
+    ensures adds { λ r. ⌜ AddsSend n c (now (b .entry)) s (r .node) (r .undone) (now (b .exit)) ⌝ }
+{
+    match s {
+        Sending::Nothing => Added { node: 0, undone: 0 },
+        Sending::Sends(e) => engine_rollback::add(b, n, c, e),
+    }
+}
+
+// The first unrun event of station s is run, and its sends are added in order.
+fn run_at(b: &mut [u8], n: u16, c: u16, s: u16) -> RunAnswer
+    ensures { λ r. ⌜ RunsAt n c s r (now (b .entry)) (now (b .exit)) ⌝ }
+{
+    if !engine_events::fits(b, n, c) {
+        return RunAnswer::Refused(Refusal::Space);
+    }
+    if n <= s {
+        return RunAnswer::Refused(Refusal::Station);
+    }
+    let x = engine_index::next(b, n, c, s);
+    let i = engine_index::slot_in(b, n, c, x);
+    if c <= i {
+        return RunAnswer::Refused(Refusal::Idle);
+    }
+    let e = engine_rows::event(b, n, i);
+    let Ran::Done(effect) = line::run_event(
+        engine_rows::config(b, n, s),
+        engine_rows::state(b, n, s),
+        e,
+    ) else {
+        return RunAnswer::Refused(Refusal::Count);
+    };
+    let after = effect.state;
+    let one = effect.first;
+    let two = effect.second;
+    if free_places(b, n, c) < sends(one) + sends(two) {
+        return RunAnswer::Refused(Refusal::Full);
+    }
+    let first = add_send(b, n, c, one);
+    let second = add_send(b, n, c, two);
+    engine_moves::run(b, n, c, x, after, first.node, second.node);
+    RunAnswer::Done {
+        station: s as u64,
+        undone: first.undone + second.undone,
+    }
+}
+
+// The station's least unrun event is run.
+pub fn run_station(b: &mut [u8], station: u64) -> RunAnswer
+    ensures { λ r. ⌜ Answered (RunStation station) (runSaid r) (now (b .entry)) (now (b .exit)) ⌝ }
+{
+    if 65535 < station {
+        return RunAnswer::Refused(Refusal::Station);
+    }
+    let n = engine_promises::stations(b);
+    let c = engine_promises::capacity(b);
+    run_at(b, n, c, station as u16)
+}
+
+// The same for the station that the calendar names.
+pub fn run_lowest(b: &mut [u8]) -> RunAnswer
+    ensures { λ r. ⌜ Answered RunLowest (runSaid r) (now (b .entry)) (now (b .exit)) ⌝ }
+{
+    let n = engine_promises::stations(b);
+    let c = engine_promises::capacity(b);
+    if !engine_events::fits(b, n, c) {
+        return RunAnswer::Refused(Refusal::Space);
+    }
+    let Least::At { station, time: _ } = engine_events::lowest(b, n, c) else {
+        return RunAnswer::Refused(Refusal::Idle);
+    };
+    if 65535 < station {
+        return RunAnswer::Refused(Refusal::Station);
+    }
+    run_at(b, n, c, station as u16)
+}

@@ -1,0 +1,29 @@
+// The calendar's answers as numbers.
+
+ghost use mathlib.Core.Path.{_≡_};
+ghost use Rattle.exports_codes.specs.CalendarCodes.{codeOf, leastCode, found};
+use calendar::Answer;
+use calendar::Least;
+
+pub fn code(a: Answer) -> u64
+    ensures { λ r. ⌜ r ≡ codeOf a ⌝ }
+{
+    match a {
+        Answer::Done => 0,
+        Answer::Refused(e) => refusal::number(e),
+    }
+}
+
+// The time and the station go to `at`, which a refusal leaves as it was.
+pub fn tell(l: Least, at: &mut [u64; 2]) -> u64
+    ensures { λ r. ⌜ (r ≡ leastCode l) × (now (at .exit) ≡ found l (now (at .entry))) ⌝ }
+{
+    match l {
+        Least::At { station, time } => {
+            at[0] = time;
+            at[1] = station;
+            0
+        }
+        Least::Refused(e) => refusal::number(e),
+    }
+}

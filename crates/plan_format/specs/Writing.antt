@@ -1,0 +1,79 @@
+-- The plan that a list of stations is written as, and what writing it answers (document 01, "Plan of a line"; the writer's numbers 1, 4, 5, 18).
+use Prim.Native.Nat.{ℕ, _+_, _-_, _*_}
+use mathlib.Core.Bool.{Bool, cond, _||_}
+use mathlib.Core.List.{List, [], _∷_, _++_}
+use lib.Dec.{ltb}
+use lib.ListN.{length, take, drop, getD, replicate}
+use Rattle.words.specs.Le.{bytesOf}
+use Rattle.refusal.specs.declared.Refusal.the-variants.{Shape, Field, Name, Output}
+use Rattle.line.specs.Station.{numberOut}
+use Rattle.plan_format.specs.declared.Station.{Station}
+use Rattle.plan_format.specs.declared.WriteAnswer.{WriteAnswer}
+use Rattle.plan_format.specs.declared.WriteAnswer.the-variants.{Length, Refused}
+use Rattle.plan_format.specs.Lowest.{lowest}
+use Rattle.plan_format.specs.Plan.{nameOut}
+use Rattle.plan_format.specs.Reading.{any}
+
+-- ---- the bytes
+
+abbrev pub sizeOf : Station → ℕ
+sizeOf s = 26 + s .len
+
+-- a record: its numbers, and the name; "the writer passes over" the bytes behind its length
+unfoldable pub recordBytes : Station → List ℕ
+recordBytes s =
+    bytesOf 2 (s .config .parent) ++ (bytesOf 4 (s .config .calm) ++ (bytesOf 4 (s .config .spring) ++ (bytesOf 4 (s .config .threshold)
+    ++ (bytesOf 4 (s .config .hop) ++ (bytesOf 4 (s .config .noise) ++ (bytesOf 4 (s .config .seed) ++ take (s .len) (s .name)))))))
+
+-- the pairs of the stations, of which the first's record begins at a place
+unfoldable pub pairsOf : ℕ → List Station → List ℕ
+pairsOf at [] = []
+pairsOf at (s ∷ ss) = bytesOf 4 at ++ (bytesOf 4 (sizeOf s) ++ pairsOf (at + sizeOf s) ss)
+
+unfoldable pub recordsOf : List Station → List ℕ
+recordsOf [] = []
+recordsOf (s ∷ ss) = recordBytes s ++ recordsOf ss
+
+unfoldable pub planOf : List Station → List ℕ
+planOf ss = bytesOf 2 (length ss) ++ (pairsOf (2 + 8 * length ss) ss ++ recordsOf ss)
+
+-- ---- the answer
+
+-- no station: what stands past the end of a list
+abbrev pub noStation : Station
+noStation = record { config = record { parent = 0; calm = 0; spring = 0; threshold = 0; hop = 0; noise = 0; seed = 0 }; name = replicate 16 0; len = 0 }
+
+-- the first n stations of a list
+abbrev pub chosen : ℕ → List Station → List Station
+chosen n ss = take n ss
+
+-- 4 and 5 of the station at k
+abbrev pub fieldOut : List Station → ℕ → Bool
+fieldOut ss k = numberOut k (getD ss k noStation .config)
+
+abbrev pub wordOut : List Station → ℕ → Bool
+wordOut ss k = nameOut (getD ss k noStation)
+
+-- 1: "N is 0 or over 256", or more than the list of so many records has
+abbrev pub countOut : ℕ → ℕ → Bool
+countOut n len = ltb n 1 || (ltb 256 n || ltb len n)
+
+-- writing the first n stations of the list into so many bytes
+unfoldable pub writing : ℕ → List Station → ℕ → WriteAnswer
+writing n ss room =
+    cond (countOut n (length ss)) (Refused Shape)
+    (cond (any (fieldOut ss) n) (Refused (Field (lowest (fieldOut ss) n)))
+    (cond (any (wordOut ss) n) (Refused (Name (lowest (wordOut ss) n)))
+    (cond (ltb room (length (planOf (chosen n ss)))) (Refused Output)
+    (Length (length (planOf (chosen n ss)))))))
+
+-- the output as the call leaves it, "what stands behind" the plan unchanged
+abbrev pub left : WriteAnswer → List ℕ → List ℕ → List ℕ
+left (Length n) plan out = plan ++ drop n out
+left (Refused r) plan out = out
+
+-- ---- equal records
+
+-- "two records are equal when their numbers and names are": the record with zeros behind its name
+unfoldable pub cleared : Station → Station
+cleared s = record { config = s .config; name = take (s .len) (s .name) ++ replicate (16 - s .len) 0; len = s .len }
