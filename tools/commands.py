@@ -3,7 +3,7 @@
 
   python3 tools/commands.py plan.txt SEED COUNT > commands
 
-Commits follow the least unrun time of the engine of tools/worked.py, so that most are accepted; posts fall at and behind the commit time, so that some undo.
+Commits follow the least unrun time of the engine of tools/worked.py, so that most are accepted; posts fall at and after the commit time, so that some undo.
 """
 import random
 import sys

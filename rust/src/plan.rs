@@ -86,7 +86,7 @@ impl<'p> Plan<'p> {
         self.count
     }
 
-    /// Its stations, into a lent list; those behind the last are left as they were. Refusal: 18.
+    /// Its stations, into a lent list; those after the last are left as they were. Refusal: 18.
     pub fn read_into<'s>(&self, stations: &'s mut [Station]) -> Result<&'s mut [Station], Refusal> {
         let [count, _] = calls::read_plan(self.bytes, stations)?;
         let end = stations.len().min(count as usize);

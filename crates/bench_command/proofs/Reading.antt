@@ -73,7 +73,7 @@ lead-decimal = by-tenths (λ v. Fits v → 0 < v → (rest : List ℕ) → getD 
     more v h i f p rest e =
         i (omega arith) (omega arith) ((48 + v % 10) ∷ rest) (sym (ap (λ (ds : List ℕ). getD ds 0 0) (front v rest f h)) ∙ e)
 
--- the number that a text begins with is one, and so is what stands behind it
+-- the number that a text begins with is one, and so is what stands after it
 pub split : (v w : ℕ) (a b : List ℕ) → Fits v → Fits w → Stops a → Stops b → decimal v ++ a ≡ decimal w ++ b → (v ≡ w) × (a ≡ b)
 split v w a b f g s t e =
     let same : v ≡ w = sym (total-decimal v f a ∙ total-stops v a s) ∙ ap (total 0) e ∙ total-decimal w g b ∙ total-stops w b t in

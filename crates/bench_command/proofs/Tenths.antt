@@ -1,4 +1,4 @@
--- A decimal is one digit, or the decimal of a tenth and one digit behind it.
+-- A decimal is one digit, or the decimal of a tenth and one digit after it.
 use mathlib.Core.Path.{_≡_, refl, sym, ap, _∙_}
 use mathlib.Core.Bool.{Bool, true, false}
 use mathlib.Core.List.{List, [], _∷_, _++_}

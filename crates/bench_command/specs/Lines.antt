@@ -25,18 +25,18 @@ commit = 99 ∷ 111 ∷ 109 ∷ 109 ∷ 105 ∷ 116 ∷ []
 abbrev pub no : List ℕ
 no = 110 ∷ 111 ∷ []
 
--- numbers behind a word, each behind one space
-unfoldable pub behind : List ℕ → List ℕ → List ℕ
-behind word [] = word
-behind word (n ∷ ns) = behind (word ++ (32 ∷ decimal n)) ns
+-- numbers after a word, each after one space
+unfoldable pub spaced : List ℕ → List ℕ → List ℕ
+spaced word [] = word
+spaced word (n ∷ ns) = spaced (word ++ (32 ∷ decimal n)) ns
 
 -- "post STATION TIME KIND VALUE", "retract NUMBER", "run", "run STATION", "commit TIME"
 unfoldable pub commandLine : Command → List ℕ
-commandLine (Post station time kind value) = behind post (station ∷ time ∷ kind ∷ value ∷ [])
-commandLine (Retract number) = behind retract (number ∷ [])
+commandLine (Post station time kind value) = spaced post (station ∷ time ∷ kind ∷ value ∷ [])
+commandLine (Retract number) = spaced retract (number ∷ [])
 commandLine Run = run
-commandLine (RunStation station) = behind run (station ∷ [])
-commandLine (Commit time) = behind commit (time ∷ [])
+commandLine (RunStation station) = spaced run (station ∷ [])
+commandLine (Commit time) = spaced commit (time ∷ [])
 
 -- "as is one over 64 bits"
 abbrev pub FitsAll : Command → Type 0
@@ -48,13 +48,13 @@ FitsAll (Commit time) = Fits time
 
 -- "post: number, undone; run: station, undone; retract: undone; commit: .. its count"; "A refusal prints "no NUMBER""; each a line
 unfoldable pub outputOf : Output → List ℕ
-outputOf (Out.Post number undone) = behind post (number ∷ undone ∷ []) ++ 10 ∷ []
-outputOf (Out.Retract undone) = behind retract (undone ∷ []) ++ 10 ∷ []
-outputOf (Out.Run station undone) = behind run (station ∷ undone ∷ []) ++ 10 ∷ []
-outputOf (Out.Commit count) = behind commit (count ∷ []) ++ 10 ∷ []
-outputOf (Out.No number) = behind no (number ∷ []) ++ 10 ∷ []
+outputOf (Out.Post number undone) = spaced post (number ∷ undone ∷ []) ++ 10 ∷ []
+outputOf (Out.Retract undone) = spaced retract (undone ∷ []) ++ 10 ∷ []
+outputOf (Out.Run station undone) = spaced run (station ∷ undone ∷ []) ++ 10 ∷ []
+outputOf (Out.Commit count) = spaced commit (count ∷ []) ++ 10 ∷ []
+outputOf (Out.No number) = spaced no (number ∷ []) ++ 10 ∷ []
 
 -- "a line for each event with time, target, kind, source, number, value"
 unfoldable pub entryLine : Event → List ℕ
 entryLine x =
-    behind (decimal (x .time)) (x .target ∷ kindOf (x .matter) ∷ x .source ∷ x .number ∷ valueOf (x .matter) ∷ []) ++ 10 ∷ []
+    spaced (decimal (x .time)) (x .target ∷ kindOf (x .matter) ∷ x .source ∷ x .number ∷ valueOf (x .matter) ∷ []) ++ 10 ∷ []

@@ -125,7 +125,7 @@ fn answer(b: &mut [u8], line: &[u8], len: usize) {
     }
 }
 
-// One byte of input: it ends the line, or is put behind it. Answers the line's length; one more than the buffer's where the line is longer.
+// One byte of input: it ends the line, or is put after it. Answers the line's length; one more than the buffer's where the line is longer.
 fn take(b: &mut [u8], line: &mut [u8], len: usize, byte: u8) -> usize {
     if byte == 10 {
         answer(b, line, len);

@@ -10,7 +10,7 @@ use Rattle.bench_command.specs.declared.Command.{Command}
 use Rattle.bench_command.specs.declared.Command.the-variants.{Post, Retract, Run, RunStation, Commit}
 use Rattle.bench_command.specs.declared.Parsed.the-variants.{Is, Refused}
 use Rattle.bench_command.specs.Decimal.{decimal, Fits}
-use Rattle.bench_command.specs.Lines.{post, retract, run, commit, behind, commandLine, FitsAll}
+use Rattle.bench_command.specs.Lines.{post, retract, run, commit, spaced, commandLine, FitsAll}
 use Rattle.bench_parsing.specs.Parsing.{Parses}
 use Rattle.bench_parsing.proofs.Forms.{post-line, secondOf, fourthOf, second, fourth}
 use Rattle.bench_parsing.proofs.Inverse.{one-line}
@@ -46,7 +46,7 @@ module _ (xs : List ℕ) where
       no (Commit n) f e z = omega arith
 
   pub refuses-retract : xs ≡ retract ++ drop 7 xs → ((n : ℕ) → Fits n → drop 7 xs ≡ 32 ∷ decimal n → ⊥) → Parses xs (Refused R.Command)
-  unfolding commandLine behind
+  unfolding commandLine spaced
   refuses-retract w h = refuses xs (λ c f e. no c f e (sym (ap (λ (l : List ℕ). getD l 3 0) w) ∙ ap (λ (l : List ℕ). getD l 3 0) e ∙ fourth c))
     where
       no : (c : Command) → FitsAll c → xs ≡ commandLine c → 114 ≡ fourthOf c → ⊥
@@ -57,7 +57,7 @@ module _ (xs : List ℕ) where
       no (Commit n) f e z = omega arith
 
   pub refuses-run : xs ≡ run ++ drop 3 xs → (length xs ≡ 3 → ⊥) → ((n : ℕ) → Fits n → drop 3 xs ≡ 32 ∷ decimal n → ⊥) → Parses xs (Refused R.Command)
-  unfolding commandLine behind
+  unfolding commandLine spaced
   refuses-run w l h = refuses xs (λ c f e. no c f e (sym (ap (λ (l : List ℕ). getD l 1 0) w) ∙ ap (λ (l : List ℕ). getD l 1 0) e ∙ second c))
     where
       no : (c : Command) → FitsAll c → xs ≡ commandLine c → 117 ≡ secondOf c → ⊥
@@ -68,7 +68,7 @@ module _ (xs : List ℕ) where
       no (Commit n) f e z = omega arith
 
   pub refuses-commit : xs ≡ commit ++ drop 6 xs → ((n : ℕ) → Fits n → drop 6 xs ≡ 32 ∷ decimal n → ⊥) → Parses xs (Refused R.Command)
-  unfolding commandLine behind
+  unfolding commandLine spaced
   refuses-commit w h = refuses xs (λ c f e. no c f e (sym (ap (λ (l : List ℕ). getD l 3 0) w) ∙ ap (λ (l : List ℕ). getD l 3 0) e ∙ fourth c))
     where
       no : (c : Command) → FitsAll c → xs ≡ commandLine c → 109 ≡ fourthOf c → ⊥
@@ -81,7 +81,7 @@ module _ (xs : List ℕ) where
   -- none of the words
   pub refuses-words : ((rest : List ℕ) → xs ≡ post ++ rest → ⊥) → ((rest : List ℕ) → xs ≡ retract ++ rest → ⊥)
       → ((rest : List ℕ) → xs ≡ run ++ rest → ⊥) → ((rest : List ℕ) → xs ≡ commit ++ rest → ⊥) → Parses xs (Refused R.Command)
-  unfolding commandLine behind
+  unfolding commandLine spaced
   refuses-words p r u c = refuses xs no
     where
       no : (c : Command) → FitsAll c → xs ≡ commandLine c → ⊥
@@ -92,7 +92,7 @@ module _ (xs : List ℕ) where
       no (Commit n) f e = c (32 ∷ decimal n) e
 
   pub takes-retract : xs ≡ retract ++ drop 7 xs → (n : ℕ) → Fits n → drop 7 xs ≡ 32 ∷ decimal n → Parses xs (Is (Retract n))
-  unfolding commandLine behind
+  unfolding commandLine spaced
   takes-retract w n f e = takes xs (Retract n) f (w ∙ ap (λ (l : List ℕ). retract ++ l) e)
 
   pub takes-run : xs ≡ run ++ drop 3 xs → length xs ≡ 3 → Parses xs (Is Run)
@@ -100,9 +100,9 @@ module _ (xs : List ℕ) where
   takes-run w l = takes xs Run tt (w ∙ ap (λ (l : List ℕ). run ++ l) (ap (λ (n : ℕ). drop n xs) (sym l) ∙ drop-length xs))
 
   pub takes-station : xs ≡ run ++ drop 3 xs → (n : ℕ) → Fits n → drop 3 xs ≡ 32 ∷ decimal n → Parses xs (Is (RunStation n))
-  unfolding commandLine behind
+  unfolding commandLine spaced
   takes-station w n f e = takes xs (RunStation n) f (w ∙ ap (λ (l : List ℕ). run ++ l) e)
 
   pub takes-commit : xs ≡ commit ++ drop 6 xs → (n : ℕ) → Fits n → drop 6 xs ≡ 32 ∷ decimal n → Parses xs (Is (Commit n))
-  unfolding commandLine behind
+  unfolding commandLine spaced
   takes-commit w n f e = takes xs (Commit n) f (w ∙ ap (λ (l : List ℕ). commit ++ l) e)

@@ -7,15 +7,15 @@ use lib.ListN.{getD, drop}
 use Rattle.bench_command.specs.declared.Command.{Command}
 use Rattle.bench_command.specs.declared.Command.the-variants.{Post, Retract, Run, RunStation, Commit}
 use Rattle.bench_command.specs.Decimal.{decimal, Fits}
-use Rattle.bench_command.specs.Lines.{post, behind, commandLine, FitsAll}
+use Rattle.bench_command.specs.Lines.{post, spaced, commandLine, FitsAll}
 use Rattle.bench_command.proofs.Reading.{split}
 
 pub decimal-injective : (v w : ℕ) → Fits v → Fits w → decimal v ≡ decimal w → v ≡ w
 decimal-injective v w f g e = split v w [] [] f g tt tt (ap (λ (l : List ℕ). l ++ []) e) .0
 
--- each space and each number, one behind the other
+-- each space and each number, one after the other
 pub post-line : (s t k v : ℕ) → commandLine (Post s t k v) ≡ post ++ (32 ∷ (decimal s ++ (32 ∷ (decimal t ++ (32 ∷ (decimal k ++ (32 ∷ decimal v)))))))
-unfolding commandLine behind
+unfolding commandLine spaced
 post-line s t k v = simp append-assoc
 
 -- its second byte says whether a line is one of the two with the word run, its fourth which of the five it is
@@ -34,7 +34,7 @@ fourthOf (RunStation n) = 32
 fourthOf (Commit n) = 109
 
 pub second : (c : Command) → getD (commandLine c) 1 0 ≡ secondOf c
-unfolding commandLine behind
+unfolding commandLine spaced
 second (Post s t k v) = refl
 second (Retract n) = refl
 second Run = refl
@@ -42,7 +42,7 @@ second (RunStation n) = refl
 second (Commit n) = refl
 
 pub fourth : (c : Command) → getD (commandLine c) 3 0 ≡ fourthOf c
-unfolding commandLine behind
+unfolding commandLine spaced
 fourth (Post s t k v) = refl
 fourth (Retract n) = refl
 fourth Run = refl
@@ -51,7 +51,7 @@ fourth (Commit n) = refl
 
 -- the numbers of two lines of one form
 pub same : (a b : Command) → FitsAll a → FitsAll b → commandLine a ≡ commandLine b → fourthOf a ≡ fourthOf b → a ≡ b
-unfolding commandLine behind
+unfolding commandLine spaced
 same (Post s t k v) (Post s' t' k' v') f g e z =
     let h = sym (post-line s t k v) ∙ e ∙ post-line s' t' k' v' in
     let p = split s s' (32 ∷ (decimal t ++ (32 ∷ (decimal k ++ (32 ∷ decimal v))))) (32 ∷ (decimal t' ++ (32 ∷ (decimal k' ++ (32 ∷ decimal v')))))

@@ -82,7 +82,7 @@ module _ (xs : List ℕ) (at n : ℕ) (counted : n ≡ count (drop at xs)) where
           let b : at + n ≡ at + 0 + length (decimal w) = omega (arith, long w rest f q s) in
           cc
 
--- ---- behind one space
+-- ---- after one space
 
 module _ (xs : List ℕ) (at : ℕ) where
   pub spaced : at < length xs → getD xs at 0 ≡ 32 → (r : Number) → Numbers [] xs (at + 1) r → Numbers (32 ∷ []) xs at r
@@ -109,7 +109,7 @@ module _ (xs : List ℕ) (at : ℕ) where
       none (32 ∷ []) xs at
       (λ v rest f e s. d (ap (λ (i : ℕ). getD xs i 0) (omega arith) ∙ sym (getD-drop at xs 0 0) ∙ ap (λ (t : List ℕ). getD t 0 0) e))
 
--- ---- where nothing stands behind it
+-- ---- where nothing stands after it
 
 module _ (xs : List ℕ) (at : ℕ) (r : Number) (n : Numbers (32 ∷ []) xs at r) where
   pub last-some : (v next : ℕ) → r ≡ Value v next → next ≡ length xs → Lasts xs at (Value v next)

@@ -1,4 +1,4 @@
--- A post's line is refused where the first of its four numbers is missing, or where more stands behind the last, and is accepted otherwise.
+-- A post's line is refused where the first of its four numbers is missing, or where more stands after the last, and is accepted otherwise.
 use mathlib.Core.Path.{_≡_, refl, sym, ap, _∙_}
 use mathlib.Core.List.{List, [], _∷_, _++_, append-nil, append-cancel-left}
 use Prim.Native.Nat.{ℕ, _-_}
@@ -20,7 +20,7 @@ module _ (xs : List ℕ) {at : ℕ} {r : Number} (n : Numbers (32 ∷ []) xs at 
   fails : r ≡ Absent → (v : ℕ) (rest : List ℕ) → Fits v → drop at xs ≡ 32 ∷ (decimal v ++ rest) → Stops rest → ⊥
   fails a v rest f e s = let h = n .finds v rest f e s in let z : _≡_ {A = ℕ} 0 1 = cc in omega arith
 
-  -- what stands behind the number that was read
+  -- what stands after the number that was read
   goes : {w next : ℕ} → r ≡ Value w next → (v : ℕ) (rest : List ℕ) → Fits v → drop at xs ≡ 32 ∷ (decimal v ++ rest) → Stops rest → drop next xs ≡ rest
   goes {w} {next} a v rest f e s =
       let h = sym a ∙ n .finds v rest f e s in
@@ -41,7 +41,7 @@ module _ (xs : List ℕ) (w : xs ≡ post ++ drop 4 xs) (r₁ : Number) (n₁ : 
       no-kind e = refuses-post xs w (λ s t k v f q. fails xs n₃ e _ _ (f .2) (goes xs n₂ e₂ _ _ (f .1) (goes xs n₁ e₁ _ _ (f .0) q refl) refl) refl)
 
       module _ (k c : ℕ) (e₃ : r₃ ≡ Value k c) (r₄ : Number) (n₄ : Numbers (32 ∷ []) xs c r₄) where
-        -- the last number, and nothing behind it
+        -- the last number, and nothing after it
         last : (s t k v : ℕ) → Fits s × Fits t × Fits k × Fits v → drop 4 xs ≡ 32 ∷ (decimal s ++ (32 ∷ (decimal t ++ (32 ∷ (decimal k ++ (32 ∷ decimal v))))))
             → drop c xs ≡ 32 ∷ (decimal v ++ [])
         last s t k v f q =

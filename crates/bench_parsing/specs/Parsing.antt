@@ -21,7 +21,7 @@ pub record Parses (xs : List ℕ) (r : Parsed) : Type 0 where
 
 -- ---- steps
 
--- the number that stands from byte `at` on behind the bytes `lead`, and where it ends
+-- the number that stands from byte `at` on after the bytes `lead`, and where it ends
 pub record Numbers (lead : List ℕ) (xs : List ℕ) (at : ℕ) (r : Number) : Type 0 where
   pub found : (v next : ℕ) → r ≡ Value v next → Fits v × (drop at xs ≡ lead ++ (decimal v ++ drop next xs)) × (next ≤ length xs)
   pub finds : (v : ℕ) (rest : List ℕ) → Fits v → drop at xs ≡ lead ++ (decimal v ++ rest) → Stops rest

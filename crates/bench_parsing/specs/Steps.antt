@@ -16,7 +16,7 @@ pub record Begins (word xs : List ℕ) (r : Bool) : Type 0 where
   pub begun : r ≡ true → xs ≡ word ++ drop (length word) xs
   pub other : r ≡ false → (rest : List ℕ) → xs ≡ word ++ rest → ⊥
 
--- the number behind one space from byte `at` on, where nothing stands behind it
+-- the number after one space from byte `at` on, where nothing stands after it
 pub record Lasts (xs : List ℕ) (at : ℕ) (r : Number) : Type 0 where
   pub found : (v next : ℕ) → r ≡ Value v next → Fits v × (drop at xs ≡ 32 ∷ decimal v)
   pub absent : r ≡ Absent → (v : ℕ) → Fits v → drop at xs ≡ 32 ∷ decimal v → ⊥

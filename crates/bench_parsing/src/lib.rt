@@ -11,7 +11,7 @@ use bench_command::Command;
 use bench_command::Parsed;
 use refusal::Refusal;
 
-// A number and the place behind it, or none.
+// A number and the place after it, or none.
 pub enum Number {
     Value(u64, usize),
     Absent,
@@ -79,7 +79,7 @@ fn digit_total(line: &[u8], at: usize, n: usize) -> Total
     Total::Sum(v)
 }
 
-// The decimal number at a place, with the place behind it.
+// The decimal number at a place, with the place after it.
 fn number_at(line: &[u8], at: usize) -> Number
     ensures { λ r. ⌜ Numbers [] (now (line .entry)) at r ⌝ }
 {
@@ -98,8 +98,8 @@ fn number_at(line: &[u8], at: usize) -> Number
     Number::Value(v, at + n)
 }
 
-// The number behind one space.
-fn number_behind(line: &[u8], at: usize) -> Number
+// The number after one space.
+fn number_after(line: &[u8], at: usize) -> Number
     ensures { λ r. ⌜ Numbers (32 ∷ []) (now (line .entry)) at r ⌝ }
 {
     if at < line.len() {
@@ -115,16 +115,16 @@ fn parse_post(line: &[u8]) -> Parsed
     requires { ⌜ now line ≡ post ++ drop 4 (now line) ⌝ }
     ensures { λ r. ⌜ Parses (now (line .entry)) r ⌝ }
 {
-    let Number::Value(station, a) = number_behind(line, 4) else {
+    let Number::Value(station, a) = number_after(line, 4) else {
         return Parsed::Refused(Refusal::Command);
     };
-    let Number::Value(time, b) = number_behind(line, a) else {
+    let Number::Value(time, b) = number_after(line, a) else {
         return Parsed::Refused(Refusal::Command);
     };
-    let Number::Value(kind, c) = number_behind(line, b) else {
+    let Number::Value(kind, c) = number_after(line, b) else {
         return Parsed::Refused(Refusal::Command);
     };
-    let Number::Value(value, d) = number_behind(line, c) else {
+    let Number::Value(value, d) = number_after(line, c) else {
         return Parsed::Refused(Refusal::Command);
     };
     if d == line.len() {
@@ -138,11 +138,11 @@ fn parse_post(line: &[u8]) -> Parsed
     Parsed::Refused(Refusal::Command)
 }
 
-// The one number behind a word of `at` bytes, to the line's end.
+// The one number after a word of `at` bytes, to the line's end.
 fn last_number(line: &[u8], at: usize) -> Number
     ensures { λ r. ⌜ Lasts (now (line .entry)) at r ⌝ }
 {
-    let Number::Value(v, a) = number_behind(line, at) else {
+    let Number::Value(v, a) = number_after(line, at) else {
         return Number::Absent;
     };
     if a == line.len() {

@@ -42,7 +42,7 @@ pub at-most-20 : (v : ℕ) → length (decimal v) ≤ 20
 unfolding decimal
 at-most-20 v = at-most 20 v
 
--- where all places are taken, the last digit stands behind the others
+-- where all places are taken, the last digit stands after the others
 pub last-digit : (k v : ℕ) → length (digits (suc k) v) ≡ suc k → digits (suc k) v ≡ digits k (v / 10) ++ ((48 + v % 10) ∷ [])
 unfolding digits
 last-digit k v e = go k (ltb v 10) refl e

@@ -21,21 +21,21 @@ use Rattle.line.specs.Matter.{kindOf, valueOf}
 use Rattle.bench_command.specs.declared.Output.{Output}
 use Rattle.bench_command.specs.declared.Output.the-variants as Out
 use Rattle.bench_command.specs.Decimal.{decimal, Fits}
-use Rattle.bench_command.specs.Lines.{behind, outputOf, entryLine}
+use Rattle.bench_command.specs.Lines.{spaced, outputOf, entryLine}
 use Rattle.bench_printing.specs.Printing.{Prints, Fills}
 use Rattle.bench_command.proofs.Reading.{length-one, length-more}
 use Rattle.bench_printing.proofs.Backward.{at-most-20}
 
--- one number behind a word
+-- one number after a word
 one-more : (word : List ℕ) (v : ℕ) → length (word ++ (32 ∷ decimal v)) ≡ length word + (1 + length (decimal v))
 one-more word v = length-append word (32 ∷ decimal v) ∙ omega arith
 
-one : (word : List ℕ) (v : ℕ) → length word ≤ 7 → length (behind word (v ∷ []) ++ 10 ∷ []) ≤ 96
-unfolding behind
+one : (word : List ℕ) (v : ℕ) → length word ≤ 7 → length (spaced word (v ∷ []) ++ 10 ∷ []) ≤ 96
+unfolding spaced
 one word v h = omega (arith, length-append (word ++ (32 ∷ decimal v)) (10 ∷ []), one-more word v, at-most-20 v, h)
 
-two : (word : List ℕ) (v w : ℕ) → length word ≤ 7 → length (behind word (v ∷ w ∷ []) ++ 10 ∷ []) ≤ 96
-unfolding behind
+two : (word : List ℕ) (v w : ℕ) → length word ≤ 7 → length (spaced word (v ∷ w ∷ []) ++ 10 ∷ []) ≤ 96
+unfolding spaced
 two word v w h =
     let front = word ++ (32 ∷ decimal v) in
     omega (arith, length-append (front ++ (32 ∷ decimal w)) (10 ∷ []), one-more front w, one-more word v, at-most-20 v, at-most-20 w, h)
@@ -74,7 +74,7 @@ value-small (Frame origin) vs p = p .1 .1 .1 .1 .0 .1
 value-small (Level mm) vs p = p .1 .1 .1 .1 .0 .1
 
 pub entry-room : (x : Event) (vs : List Val) → Is (Struct.row E.the-type) x vs → length (entryLine x) ≤ 96
-unfolding behind entryLine
+unfolding spaced entryLine
 entry-room x vs p =
     let fields = p .1 .1 in
     let target : x .target < 2 ^ 16 = fields .1 .0 .1 in

@@ -4,7 +4,7 @@ ghost use mathlib.Core.Path.{_≡_};
 ghost use mathlib.Core.List.{[], _∷_, _++_};
 ghost use lib.ListN.{length};
 ghost use Rattle.bench_command.specs.Decimal.{decimal};
-ghost use Rattle.bench_command.specs.Lines.{behind, outputOf, entryLine};
+ghost use Rattle.bench_command.specs.Lines.{spaced, outputOf, entryLine};
 ghost use Rattle.bench_printing.specs.Printing.{Appends, Prints, Fills};
 use bench_command::Output;
 use line::Event;
@@ -12,7 +12,7 @@ use line::Event;
 // The bytes that have room for every line.
 const ROOM: usize = 96;
 
-// A byte at a place of the line; answers the place behind it.
+// A byte at a place of the line; answers the place after it.
 fn append_byte(out: &mut [u8], at: usize, byte: u8) -> usize
     ensures { λ r. ⌜ Appends (byte ∷ []) at (now (out .entry)) r (now (out .exit)) ⌝ }
 {
@@ -68,8 +68,8 @@ fn append_number(out: &mut [u8], at: usize, v: u64) -> usize
     at + n
 }
 
-// A number behind one space.
-fn append_behind(out: &mut [u8], at: usize, v: u64) -> usize
+// A number after one space.
+fn append_after(out: &mut [u8], at: usize, v: u64) -> usize
     ensures { λ r. ⌜ Appends (32 ∷ decimal v) at (now (out .entry)) r (now (out .exit)) ⌝ }
 {
     let a = append_byte(out, at, 32);
@@ -78,20 +78,20 @@ fn append_behind(out: &mut [u8], at: usize, v: u64) -> usize
 
 // The line of a word and a number, at the front of a buffer; answers its length.
 fn print_one(out: &mut [u8], word: &[u8], v: u64) -> usize
-    ensures { λ r. ⌜ Fills (behind (now (word .entry)) (v ∷ []) ++ 10 ∷ []) (now (out .entry)) r (now (out .exit)) ⌝ }
+    ensures { λ r. ⌜ Fills (spaced (now (word .entry)) (v ∷ []) ++ 10 ∷ []) (now (out .entry)) r (now (out .exit)) ⌝ }
 {
     let a = append_word(out, 0, word);
-    let c = append_behind(out, a, v);
+    let c = append_after(out, a, v);
     append_byte(out, c, 10)
 }
 
 // The line of a word and two numbers.
 fn print_two(out: &mut [u8], word: &[u8], v: u64, w: u64) -> usize
-    ensures { λ r. ⌜ Fills (behind (now (word .entry)) (v ∷ w ∷ []) ++ 10 ∷ []) (now (out .entry)) r (now (out .exit)) ⌝ }
+    ensures { λ r. ⌜ Fills (spaced (now (word .entry)) (v ∷ w ∷ []) ++ 10 ∷ []) (now (out .entry)) r (now (out .exit)) ⌝ }
 {
     let a = append_word(out, 0, word);
-    let c = append_behind(out, a, v);
-    let d = append_behind(out, c, w);
+    let c = append_after(out, a, v);
+    let d = append_after(out, c, w);
     append_byte(out, d, 10)
 }
 
@@ -124,11 +124,11 @@ fn fill_entry(out: &mut [u8], e: Event) -> usize
 {
     let m = e.matter;
     let a = append_number(out, 0, e.time);
-    let c = append_behind(out, a, e.target as u64);
-    let d = append_behind(out, c, line::kind_of(m) as u64);
-    let f = append_behind(out, d, e.source as u64);
-    let g = append_behind(out, f, e.number as u64);
-    let h = append_behind(out, g, line::value_of(m) as u64);
+    let c = append_after(out, a, e.target as u64);
+    let d = append_after(out, c, line::kind_of(m) as u64);
+    let f = append_after(out, d, e.source as u64);
+    let g = append_after(out, f, e.number as u64);
+    let h = append_after(out, g, line::value_of(m) as u64);
     append_byte(out, h, 10)
 }
 

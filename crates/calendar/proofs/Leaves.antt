@@ -36,7 +36,7 @@ bucket-own l s h = rw (le-ltb l 4096 h)
 pub div-mono : (k : ℕ) → 0 < k → (x y : ℕ) → x ≤ y → x / k ≤ y / k
 div-mono k p x y h = le-div-iff-mul-le p .1 (le-trans (div-mul-le-self x k) h)
 
--- a time of the ring lies fewer than 4096 leaf widths behind the start of the floor's block
+-- a time of the ring lies fewer than 4096 leaf widths after the start of the floor's block
 pub ring-turns : (w floor t : ℕ) → 0 < w → floor ≤ t → t < (blockOf 16 w floor + 16) * (w * 256)
     → (blockOf 16 w floor * 256 ≤ t / w) × (t / w < blockOf 16 w floor * 256 + 4096)
 ring-turns w floor t p f h =

@@ -1,4 +1,4 @@
--- The first station in ring order is the first in time: leaf order is time order, and the overflow table's times lie behind the ring.
+-- The first station in ring order is the first in time: leaf order is time order, and the overflow table's times lie after the ring.
 use mathlib.Core.Path.{_≡_, ap, _∙_, subst}
 use mathlib.Core.Logic.{_⊎_, inl, inr}
 use mathlib.Core.List.{List}
@@ -20,13 +20,13 @@ module _ (w end t x : ℕ) where
   pub home-in : t < end → bucketFor (leafFor 16 w end t) x ≡ t / w % 4096
   home-in h = ap (λ (l : ℕ). bucketFor l x) (leaf-in w end t h) ∙ bucket-leaf (t / w % 4096) x (omega arith)
 
-  -- a time behind it waits
+  -- a time after it waits
   pub home-over : end ≤ t → bucketFor (leafFor 16 w end t) x ≡ 4096 + x
   home-over h = ap (λ (l : ℕ). bucketFor l x) (leaf-over w end t h) ∙ bucket-own 4096 x (omega arith)
 
 -- ---- ring order is time order
 
--- how many leaves a time's leaf lies behind the start of the floor's block
+-- how many leaves a time's leaf lies after the start of the floor's block
 turns-are : (b k slot : ℕ) → b * 256 ≤ k → k < b * 256 + 4096 → slot ≡ b % 16 → turnsTo slot (k % 4096) ≡ k - b * 256
 turns-are b k slot lo hi e = omega arith
 
@@ -44,7 +44,7 @@ module _ (xs : List ℕ) (S : Sound xs) where
       go (inl q) = (q, S .homes x l r ∙ home-in (widthOf xs) (limitOf xs) (dueOf xs x - 1) x q)
       go (inr q) = absurd (omega (arith, S .homes x l r, home-over (widthOf xs) (limitOf xs) (dueOf xs x - 1) x q))
 
-  -- a station in the overflow table has a time behind it
+  -- a station in the overflow table has a time after it
   pub over-ring : (x : ℕ) → x < 256 → Due xs x → 4096 ≤ bucketOf xs x → limitOf xs ≤ dueOf xs x - 1
   over-ring x l r b = go (lt-or (dueOf xs x - 1) (limitOf xs))
     where

@@ -1,4 +1,4 @@
--- Words of the header written one after the other: each has what was written last, and the table behind the header is as it was.
+-- Words of the header written one after the other: each has what was written last, and the table after the header is as it was.
 use mathlib.Core.Path.{_≡_, refl, sym, ap, ap₂, _∙_, subst}
 use mathlib.Core.Bool.{cond}
 use mathlib.Core.Logic.{_⊎_, inl, inr}

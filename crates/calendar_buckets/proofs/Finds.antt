@@ -28,7 +28,7 @@ ahead xs p n C l r e z = let e′ : n ≡ suc (n - 1) = omega arith in C .lists 
 pub way-end : (xs : List ℕ) (list k p last n : ℕ) → Way xs list k p last → n ≡ nextOf xs p → n ≡ 0 → Found xs list k p
 way-end xs list k p last n W e z C =
     let w = W C in
-    record { live = w .0; list-is = w .1; below = w .2; behind = λ m q. absurd (omega arith) }
+    record { live = w .0; list-is = w .1; below = w .2; beyond = λ m q. absurd (omega arith) }
 
 pub way-out : (xs : List ℕ) (list k p last n : ℕ) → Way xs list k p last → p < 4608 → n ≡ nextOf xs p → 256 < n → Found xs list k p
 way-out xs list k p last n W lp e z C =
@@ -55,7 +55,7 @@ module _
           live = w .0;
           list-is = w .1;
           below = w .2;
-          behind = λ m q.
+          beyond = λ m q.
               let mm : n - 1 ≡ m = omega arith in
               subst (λ (y : ℕ). k ≤ rankOf (dueOf xs) y) mm (subst (λ (y : ℕ). k ≤ y) (rank (C .until (n - 1) (F .station))) z);
         }

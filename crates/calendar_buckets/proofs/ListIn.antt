@@ -1,4 +1,4 @@
--- A station is put in right behind a place p, where its rank belongs, and the lists stay linked.
+-- A station is put in right after a place p, where its rank belongs, and the lists stay linked.
 use mathlib.Core.Path.{_≡_, sym, ap, _∙_, subst}
 use mathlib.Core.Logic.{_⊎_, inl, inr}
 use Prim.Native.Nat.{ℕ, suc, _+_, _-_, _*_, _≤_, _<_}
@@ -10,7 +10,7 @@ use Rattle.calendar_buckets.proofs.Places.{list-station, rank-station, 
 module _
     (places : ℕ) (wide : 256 ≤ places) (at due next prev at′ due′ next′ prev′ : ℕ → ℕ) (s d p l : ℕ) (ls : s < 256) (rs : due s ≡ 0) (rd : d ≡ 0 → ⊥)
     (lp : p < places) (live-p : Live due p) (list-p : listOf at p ≡ l) (rank-p : rankOf due p < d * 256 + s)
-    (behind : (m : ℕ) → next p ≡ suc m → d * 256 + s ≤ rankOf due m)
+    (beyond : (m : ℕ) → next p ≡ suc m → d * 256 + s ≤ rankOf due m)
     (at-s : at′ s ≡ l) (at-o : (x : ℕ) → x < 256 → (x ≡ s → ⊥) → at′ x ≡ at x)
     (due-s : due′ s ≡ d) (due-o : (x : ℕ) → x < 256 → (x ≡ s → ⊥) → due′ x ≡ due x)
     (next-s : next′ s ≡ next p) (next-p : next′ p ≡ suc s) (next-o : (q : ℕ) → q < places → (q ≡ s → ⊥) → (q ≡ p → ⊥) → next′ q ≡ next q)
@@ -44,7 +44,7 @@ module _
               live = λ _ z. rd (sym due-s ∙ z);
               list = list-station at′ s ls ∙ at-s ∙ sym list-p ∙ ap (listOf at) (sym px) ∙ B .list ∙ sym (at-o x l′ ne);
               next-is = next-s ∙ e;
-              below = rw (ks, rank-same due due′ x (λ _. dx)) (omega (arith, behind x e, kx));
+              below = rw (ks, rank-same due due′ x (λ _. dx)) (omega (arith, beyond x e, kx));
             }
         old ne (inr n) =
             let dx : due′ x ≡ due x = due-o x l′ ne in

@@ -1,4 +1,4 @@
--- A station is taken out of its list: the place before it is joined with the station behind it, and the lists stay linked.
+-- A station is taken out of its list: the place before it is joined with the station after it, and the lists stay linked.
 use mathlib.Core.Path.{_≡_, refl, sym, ap, _∙_, subst}
 use mathlib.Core.Logic.{_⊎_, inl, inr}
 use Prim.Native.Nat.{ℕ, suc, _-_, _≤_, _<_}

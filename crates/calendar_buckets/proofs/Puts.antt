@@ -82,13 +82,13 @@ module _
             let k : 4609 + s ≡ 4608 + suc s = omega arith in
             R .links (4609 + s) (omega arith) ∙ ap (λ (y : ℕ). halfAt y vs) k ∙ K .prev long-u lp (omega arith)
 
-        -- the station behind p was there before
-        in-behind : (m : ℕ) → nextOf xs p ≡ suc m → m ≡ s → ⊥
-        in-behind m e z = T .lists .front p lp (P .live) m e .live (ap (dueOf xs) z ∙ ed)
+        -- the station after p was there before
+        in-after : (m : ℕ) → nextOf xs p ≡ suc m → m ≡ s → ⊥
+        in-after m e z = T .lists .front p lp (P .live) m e .live (ap (dueOf xs) z ∙ ed)
 
         in-prev-n : (m : ℕ) → m < 256 → nextOf xs p ≡ suc m → prevOf ws m ≡ s
         in-prev-n m l e =
-            let ne : m ≡ s → ⊥ = in-behind m e in
+            let ne : m ≡ s → ⊥ = in-after m e in
             let k : 4609 + m ≡ 4608 + n = omega (arith, en, e) in
             R .links (4609 + m) (omega arith) ∙ K .others (4609 + m) (omega arith) (λ z. ne (omega arith)) ∙ ap (λ (y : ℕ). halfAt y us) k
             ∙ J .prev long-z (omega arith) ln
@@ -145,7 +145,7 @@ module _
               changed xs ws T s d in-size in-this in-due in-bucket md
               (λ _. (rw in-bucket-s ll, λ h. in-bucket-s ∙ lo (subst (λ (y : ℕ). 4096 ≤ y) in-bucket-s h)))
               (lists-in 4608 (omega arith) (bucketOf xs) (dueOf xs) (nextOf xs) (prevOf xs) (bucketOf ws) (dueOf ws) (nextOf ws) (prevOf ws) s d p list
-              ls ed (λ z. omega arith) lp (P .live) (P .list-is) (P .below) (P .behind) in-bucket-s in-bucket
+              ls ed (λ z. omega arith) lp (P .live) (P .list-is) (P .below) (P .beyond) in-bucket-s in-bucket
               in-this in-due in-next-s in-next-p in-next-o in-prev-s in-prev-n in-prev-o (T .lists))
               (R .tree long-v ll (headOf xs) in-filled in-head (tree-same (headOf xs) xs vs bits (T .tree)));
           due-is = in-this;

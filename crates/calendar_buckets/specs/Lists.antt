@@ -25,7 +25,7 @@ pub record Back (places : ℕ) (at due next : ℕ → ℕ) (p s : ℕ) : Type 0 
   pub next-is : next p ≡ suc s
   pub below : rankOf due p < rankOf due s
 
--- the station n comes right behind p
+-- the station n comes right after p
 pub record Front (due prev : ℕ → ℕ) (p n : ℕ) : Type 0 where
   pub station : n < 256
   pub live : due n ≡ 0 → ⊥

@@ -13,12 +13,12 @@ pub record Chained (xs : List ℕ) : Type 0 where
   pub until : (x : ℕ) → x < 256 → dueOf xs x ≤ 1099511627776
   pub lists : Lists 4608 (bucketOf xs) (dueOf xs) (nextOf xs) (prevOf xs)
 
--- a station of rank k belongs in the list right behind p
+-- a station of rank k belongs in the list right after p
 pub record Place (xs : List ℕ) (list k p : ℕ) : Type 0 where
   pub live : Live (dueOf xs) p
   pub list-is : listOf (bucketOf xs) p ≡ list
   pub below : rankOf (dueOf xs) p < k
-  pub behind : (m : ℕ) → nextOf xs p ≡ suc m → k ≤ rankOf (dueOf xs) m
+  pub beyond : (m : ℕ) → nextOf xs p ≡ suc m → k ≤ rankOf (dueOf xs) m
 
 -- p leads to n, a station + 1 or 0, and that back to p: where n is 0 in a cell that no station has. Nothing else is changed
 pub record Joined (p n : ℕ) (xs ys : List ℕ) : Type 0 where

@@ -78,7 +78,7 @@ pub record Placed (s d l : ℕ) (xs ys : List ℕ) : Type 0 where
 unfoldable pub bucketFor : ℕ → ℕ → ℕ
 bucketFor leaf s = cond (ltb leaf 4096) leaf (4096 + s)
 
--- how many leaves leaf l lies behind leaf 0 of a slot, in ring order
+-- how many leaves leaf l lies after leaf 0 of a slot, in ring order
 abbrev pub turnsTo : ℕ → ℕ → ℕ
 turnsTo slot l = (l + 4096 - 256 * slot) % 4096
 

@@ -204,7 +204,7 @@ fn register_in(b: &mut [u8], from: usize, to: usize, station: u64, time: u64) ->
     ensures { λ r. ⌜ Obeys (λ q. registerChecks q station time) (λ q. registered q station time)
         (take (to - from) (drop from (now (b .entry)))) r (take (to - from) (drop from (now (b .exit)))) ⌝ }
     ensures before { λ _. ⌜ take from (now (b .exit)) ≡ take from (now (b .entry)) ⌝ }
-    ensures behind { λ _. ⌜ drop to (now (b .exit)) ≡ drop to (now (b .entry)) ⌝ }
+    ensures beyond { λ _. ⌜ drop to (now (b .exit)) ≡ drop to (now (b .entry)) ⌝ }
 {
     calendar::register(&mut b[from..to], station, time)
 }

@@ -7,7 +7,7 @@ use Rattle.rules.specs.Machine.{Machine}
 use Rattle.rules.specs.Engine.{Engine, opened}
 use Rattle.rules.specs.Demand as D
 use Rattle.rules.specs.Demand.{Made, Calls, Comes}
-use Rattle.rules.proofs.Whole as W
+use Rattle.rules.proofs.Calls.Demand3 as W
 use Rattle.engine_answers.specs.declared.OpenAnswer.the-variants.{Done}
 use Rattle.engine_promises.specs.Represents.{lineOf, Represents}
 use Rattle.engine_promises.specs.Promises.{Opens}

@@ -15,10 +15,10 @@ use Rattle.rules.specs.Held.{unrunBefore, logged}
 use Rattle.rules.specs.Engine.{Engine, Commit}
 use Rattle.rules.specs.Checks.{checks}
 use Rattle.rules.specs.Calls.{refuse}
-use Rattle.engine_events.specs.Holds.{fitsIn, Holds}
+use Rattle.engine_events.specs.Represents.{fitsIn, Holds}
 use Rattle.engine_answers.specs.declared.CommitAnswer.the-variants.{Refused}
 use Rattle.engine_promises.specs.Represents.{Represents}
-use Rattle.engine_promises.specs.Said.{commitSaid}
+use Rattle.engine_promises.specs.Answers.{commitSaid}
 use Rattle.engine_promises.specs.Promises.{Commits}
 use Rattle.engine_promises.specs.Steps.{atMost}
 use Rattle.engine_committing.specs.Steps.{Counts}

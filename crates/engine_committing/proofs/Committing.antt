@@ -13,18 +13,18 @@ use Rattle.rules.specs.Held.{Held, event, In, unrunBefore, logged, kept}
 use Rattle.rules.specs.Engine.{Engine, Commit, Answer, Refused, Committed}
 use Rattle.rules.specs.Entry.{entries}
 use Rattle.rules.specs.Calls.{committed, Answers, commit}
-use Rattle.engine_index.specs.Stands.{Cell}
-use Rattle.engine_events.specs.Holds.{heldOf, Holds}
-use Rattle.engine_events.specs.Promises.{Behind, Raises}
+use Rattle.engine_index.specs.Represents.{Cell}
+use Rattle.engine_events.specs.Represents.{heldOf, Holds}
+use Rattle.engine_events.specs.Promises.{AfterHeader, Raises}
 use Rattle.engine_answers.specs.declared.CommitAnswer.the-variants.{Done}
 use Rattle.engine_promises.specs.Represents.{Represents}
-use Rattle.engine_promises.specs.Said.{commitSaid}
+use Rattle.engine_promises.specs.Answers.{commitSaid}
 use Rattle.engine_promises.specs.Promises.{Commits}
 use Rattle.engine_promises.specs.Steps.{atMost}
 use Rattle.engine_committing.specs.Steps.{Early, Counts, eventsOf, Writes}
-use Rattle.engine_promises.proofs.Standing.{reached-next}
+use Rattle.engine_promises.proofs.Invariant.{reached-next}
 use Rattle.engine_promises.proofs.Header.{header-frame, header-word, header-other, header-kept, header-holds, fits-read}
-use Rattle.engine_committing.proofs.Fronts.{AllLate, Parted, parted, logged-front, kept-back, length-events}
+use Rattle.engine_committing.proofs.LogFront.{AllLate, Parted, parted, logged-front, kept-back, length-events}
 use Rattle.engine_committing.proofs.CommitChecks.{judged-passed, holds-read}
 
 late-in : (time : ℕ) (cells : List Cell) → AllLate time cells → (y : Held) → In y (heldOf cells) → time ≤ event y .time
@@ -34,7 +34,7 @@ late-in time (z ∷ cells) l y (List·Memᴰ·tail m) = late-in time cells (l .1
 -- xs at entry, ys with the front written, zs with the new time in the header, ws at exit
 module _ (time : ℕ) (xs output : List ℕ) {n c : ℕ} (s : n ≡ atMost 256 (loadAt 8 0 xs)) (k : c ≡ atMost 4096 (loadAt 8 8 xs)) (count : ℕ)
     {ys left zs ws : List ℕ} (a : time ≤ horizon + 1) (b : loadAt 8 16 xs ≤ time) (E : Early n c xs time false) (C : Counts n c xs time count)
-    (o : 24 * count ≤ length output) (F : Behind xs ys) (W : Writes n c xs count output ys left) (P : zs ≡ storeAt 8 16 time ys) (G : Behind zs ws)
+    (o : 24 * count ≤ length output) (F : AfterHeader xs ys) (W : Writes n c xs count output ys left) (P : zs ≡ storeAt 8 16 time ys) (G : AfterHeader zs ws)
     (U : Raises n c time zs ws) where
   module _ (p : Plan) (e : Engine) (R : Represents p e xs) where
     H : Holds p n c (e .now) xs (e .queue) (R .cells)

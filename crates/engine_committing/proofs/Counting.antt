@@ -1,4 +1,4 @@
--- The walk along the log counts the front cells: it passes each of them, and stops behind the last.
+-- The walk along the log counts the front cells: it passes each of them, and stops after the last.
 use mathlib.Core.Path.{_≡_, refl, sym, ap, _∙_, subst}
 use mathlib.Core.Logic.{_≢_}
 use mathlib.Core.Bool.{Bool, true, false, cond}
@@ -15,17 +15,17 @@ use Rattle.rings.specs.Ring.{headOf}
 use Rattle.rings.proofs.Places.{first-of, next-of}
 use Rattle.engine_rows.specs.Layout.{slotRow}
 use Rattle.engine_rows.proofs.RecordLaws.{event-time}
-use Rattle.engine_index.specs.Shape.{slotOf, logAt, IsSlot}
-use Rattle.engine_index.specs.Stands.{Cell, HeldAt, Stored, Stands, hasRun, nodesBy}
-use Rattle.engine_index.proofs.Shapes.{one}
-use Rattle.engine_index.proofs.Slots.{held-event}
-use Rattle.engine_index.proofs.Contents.{by-in}
-use Rattle.engine_index.proofs.MarkLaws.{node-of}
-use Rattle.engine_events.specs.Holds.{Holds}
-use Rattle.engine_moves.proofs.Splits.{middle-in}
+use Rattle.engine_index.specs.Layout.{slotOf, logAt, IsSlot}
+use Rattle.engine_index.specs.Represents.{Cell, HeldAt, Stored, Stands, hasRun, nodesBy}
+use Rattle.engine_index.proofs.Places.Layout.{one}
+use Rattle.engine_index.proofs.Slots.SlotBytes.{held-event}
+use Rattle.engine_index.proofs.Rings.Contents.{by-in}
+use Rattle.engine_index.proofs.Changes.Mark.{node-of}
+use Rattle.engine_events.specs.Represents.{Holds}
+use Rattle.engine_moves.proofs.Cells.Split.{middle-in}
 use Rattle.engine_committing.specs.Steps.{eventsOf, AllRun, Counts}
 use Rattle.engine_promises.proofs.FoundSlots.{cell-slot}
-use Rattle.engine_committing.proofs.Fronts.{AllEarly, AllLate, parted, logged-front, run-at, early-at, length-events}
+use Rattle.engine_committing.proofs.LogFront.{AllEarly, AllLate, parted, logged-front, run-at, early-at, length-events}
 
 -- ---- the time in a node's slot
 
@@ -57,7 +57,7 @@ stored-back n xs (y ∷ A) B s = stored-back n xs A B (s .3)
 
 -- ---- the walk
 
--- so many front cells are passed, and x is the node of the first run one behind them
+-- so many front cells are passed, and x is the node of the first run one after them
 pub record Counted (front back : List Cell) (count x : ℕ) : Type 0 where
   pub past : List Cell
   pub left : List Cell

@@ -1,6 +1,6 @@
 pub mod Recording
-pub mod Fronts
-pub mod Waiting
+pub mod LogFront
+pub mod UnrunBefore
 pub mod Counting
 pub mod Writing
 pub mod CommitChecks

@@ -17,12 +17,12 @@ use Rattle.rules.specs.Calls.{refuse, recorded}
 use Rattle.rings.specs.Table.{nextOf}
 use Rattle.engine_rows.specs.Layout.{stationRow, slotRow}
 use Rattle.engine_rows.specs.Records.{stateAt}
-use Rattle.engine_index.specs.Shape.{linksAt, slotOf}
-use Rattle.engine_index.specs.Stands.{Cell, cell, ringOf, Stands, NoneIn}
-use Rattle.engine_index.proofs.Ends.{first-in, next-none}
-use Rattle.engine_index.proofs.MarkLaws.{node-of}
-use Rattle.engine_index.proofs.Searches.{First, none, some, first}
-use Rattle.engine_events.specs.Holds.{heldOf}
+use Rattle.engine_index.specs.Layout.{linksAt, slotOf}
+use Rattle.engine_index.specs.Represents.{Cell, cell, ringOf, Stands, NoneIn}
+use Rattle.engine_index.proofs.Rings.RingEnds.{first-in, next-none}
+use Rattle.engine_index.proofs.Changes.Mark.{node-of}
+use Rattle.engine_index.proofs.Rings.RingSearches.{First, none, some, first}
+use Rattle.engine_events.specs.Represents.{heldOf}
 use Rattle.engine_promises.specs.Represents.{Represents}
 use Rattle.engine_promises.specs.Promises.{Becomes, Answered}
 use Rattle.engine_promises.specs.Steps.{atMost}

@@ -1,4 +1,4 @@
--- The log's first events, written one by one: each is the first of all that are held, and its 24 bytes come behind those of the events before it.
+-- The log's first events, written one by one: each is the first of all that are held, and its 24 bytes come after those of the events before it.
 use mathlib.Core.Path.{_≡_, refl, sym, ap, _∙_, subst}
 use mathlib.Core.Bool.{true, true≢false}
 use mathlib.Core.List.{List, [], _∷_, _++_, append-assoc, append-nil}
@@ -10,20 +10,20 @@ use Rattle.line.specs.declared.Event.{Event}
 use Rattle.line.specs.Station.{Plan, InRange}
 use Rattle.rules.specs.Held.{Held, unrun, ran, event, Queue}
 use Rattle.rules.specs.Entry.{entry, entries}
-use Rattle.rules.proofs.Entries.{entries-length, entries-append, entries-first}
+use Rattle.rules.proofs.Calls.Entries.{entries-length, entries-append, entries-first}
 use Rattle.rings.specs.Table.{nextOf}
 use Rattle.engine_rows.specs.Layout.{slotRow}
 use Rattle.engine_rows.specs.Records.{eventAt, putEvent, entryOf}
 use Rattle.engine_rows.proofs.Entry.{event-parts}
-use Rattle.engine_index.specs.Shape.{slotOf, logAt, IsSlot}
-use Rattle.engine_index.specs.Stands.{Cell, cell, hasRun, Stands}
-use Rattle.engine_index.proofs.Ends.{first-logged}
-use Rattle.engine_events.specs.Holds.{heldOf, Holds}
+use Rattle.engine_index.specs.Layout.{slotOf, logAt, IsSlot}
+use Rattle.engine_index.specs.Represents.{Cell, cell, hasRun, Stands}
+use Rattle.engine_index.proofs.Rings.RingEnds.{first-logged}
+use Rattle.engine_events.specs.Represents.{heldOf, Holds}
 use Rattle.engine_events.specs.Promises.{ReleasesEvent}
-use Rattle.engine_moves.proofs.Splits.{middle-in}
+use Rattle.engine_moves.proofs.Cells.Split.{middle-in}
 use Rattle.engine_committing.specs.Steps.{eventsOf, AllRun, Writes}
 use Rattle.engine_promises.proofs.FoundSlots.{cell-slot}
-use Rattle.engine_committing.proofs.Fronts.{run-at, length-events}
+use Rattle.engine_committing.proofs.LogFront.{run-at, length-events}
 
 -- ---- the output
 
@@ -39,7 +39,7 @@ one-entry : (x : Event) → entries (x ∷ []) ≡ entry x
 unfolding entries
 one-entry x = append-nil (entry x)
 
--- the entries of a log, and the output behind them
+-- the entries of a log, and the output after them
 abbrev pub written : List Event → List ℕ → List ℕ
 written log output = entries log ++ drop (24 * length log) output
 
@@ -48,13 +48,13 @@ write-next : (log : List Event) (x : Event) (output : List ℕ) → 24 * length 
     → putEvent (24 * length log) x (written log output) ≡ written (log ++ x ∷ []) output
 write-next log x output h =
     event-parts at x (written log output) (omega (arith, length-append (entries log) (drop at output), entries-length log, length-drop at output))
-    ∙ rw (entries-first log (drop at output), same-entry x, behind) (sym after)
+    ∙ rw (entries-first log (drop at output), same-entry x, beyond) (sym after)
   where
     at : ℕ
     at = 24 * length log
 
-    behind : drop (at + 24) (written log output) ≡ drop (at + 24) output
-    behind =
+    beyond : drop (at + 24) (written log output) ≡ drop (at + 24) output
+    beyond =
         ap (λ (m : ℕ). drop (m + 24) (written log output)) (sym (entries-length log)) ∙ drop-append-add (entries log) (drop at output) 24
         ∙ drop-drop 24 at output
 

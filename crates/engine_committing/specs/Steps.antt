@@ -8,8 +8,8 @@ use Rattle.line.specs.declared.Event.{Event}
 use Rattle.line.specs.Station.{Plan, InRange}
 use Rattle.rules.specs.Held.{event, Queue, unrunBefore, logged}
 use Rattle.rules.specs.Entry.{entries}
-use Rattle.engine_index.specs.Stands.{Cell, hasRun}
-use Rattle.engine_events.specs.Holds.{heldOf, Holds}
+use Rattle.engine_index.specs.Represents.{Cell, hasRun}
+use Rattle.engine_events.specs.Represents.{heldOf, Holds}
 
 abbrev pub Early : ℕ → ℕ → List ℕ → ℕ → Bool → Type 0
 Early n c xs time r = (p : Plan) (now : ℕ) (q : Queue) (cells : List Cell) → Holds p n c now xs q cells → r ≡ unrunBefore time (q .held)

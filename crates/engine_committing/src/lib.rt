@@ -5,10 +5,10 @@
 
 ghost use Prim.Native.Nat.{_≤_};
 ghost use Rattle.rules.specs.Engine.Call.{Commit, Record};
-ghost use Rattle.engine_promises.specs.Said.{commitSaid, recordSaid};
+ghost use Rattle.engine_promises.specs.Answers.{commitSaid, recordSaid};
 ghost use Rattle.engine_promises.specs.Promises.{Answered, Commits};
 ghost use Rattle.engine_committing.specs.Steps.{Early, Counts, Writes};
-ghost use Rattle.engine_events.specs.Promises.{Behind};
+ghost use Rattle.engine_events.specs.Promises.{AfterHeader};
 use calendar::Least;
 use engine_answers::CommitAnswer;
 use engine_answers::RecordAnswer;
@@ -54,7 +54,7 @@ fn count_before(b: &[u8], n: u16, c: u16, time: u64) -> u16
 
 // The log's first events are written, 24 bytes each, and leave.
 fn write_first(b: &mut [u8], n: u16, c: u16, count: u16, out: &mut [u8])
-    ensures frame { λ _. ⌜ Behind (now (b .entry)) (now (b .exit)) ⌝ }
+    ensures frame { λ _. ⌜ AfterHeader (now (b .entry)) (now (b .exit)) ⌝ }
     ensures writes { λ _. ⌜ Writes n c (now (b .entry)) count (now (out .entry)) (now (b .exit)) (now (out .exit)) ⌝ }
 {
     let mut k: u16 = 0;

@@ -10,8 +10,8 @@ use lib.ListN.{length}
 use Rattle.line.specs.Station.{Plan}
 use Rattle.rules.specs.Held.{Held, Queue}
 use Rattle.calendar.proofs.States.{state-length}
-use Rattle.engine_index.specs.Stands.{Cell}
-use Rattle.engine_events.specs.Holds.{fitsIn, part, Stores, Calendared}
+use Rattle.engine_index.specs.Represents.{Cell}
+use Rattle.engine_events.specs.Represents.{fitsIn, part, Stores, Calendared}
 
 module _ (n c k : ℕ) where
   pub fits-over : 256 < n → false ≡ fitsIn n c k

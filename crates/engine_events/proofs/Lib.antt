@@ -1,7 +1,8 @@
-pub mod Shown
-pub mod Parts
+pub mod CalendarShown
+pub mod CalendarPart
 pub mod Fitting
-pub mod Keeps
-pub mod Answers
-pub mod Numbers
-pub mod Asks
+pub mod StationsKept
+pub mod CalendarAccepts
+pub mod SendNumbers
+pub mod LeastStation
+pub mod AfterHeader

@@ -1,4 +1,4 @@
 pub mod Shows
-pub mod Holds
+pub mod Represents
 pub mod Promises
-pub mod Count
+pub mod RunCount

@@ -18,12 +18,12 @@ use Rattle.rules.specs.Undo.{NoneLater}
 use Rattle.rings.specs.Table.{Frame}
 use Rattle.engine_rows.specs.Layout.{stationRow}
 use Rattle.engine_rows.specs.Records.{EventFits, StateFits, stateAt, storedConfig}
-use Rattle.engine_index.specs.Stands.{Cell, cell}
-use Rattle.engine_events.specs.Holds.{fitsIn, heldOf, Has, From, nonzero, Nodes, Stores, Untold, Holds}
+use Rattle.engine_index.specs.Represents.{Cell, cell}
+use Rattle.engine_events.specs.Represents.{fitsIn, heldOf, Has, From, nonzero, Nodes, Stores, Untold, Holds}
 
--- at most bytes behind the header are changed
-abbrev pub Behind : List ℕ → List ℕ → Type 0
-Behind xs ys = Frame 64 (length xs) xs ys
+-- at most bytes after the header are changed
+abbrev pub AfterHeader : List ℕ → List ℕ → Type 0
+AfterHeader xs ys = Frame 64 (length xs) xs ys
 
 -- the bytes hold q, in cells that were among these
 pub record Becomes (p : Plan) (n c now : ℕ) (ys : List ℕ) (q : Queue) (cells : List Cell) : Type 0 where

@@ -7,9 +7,10 @@ ghost use Prim.Native.Nat.{_≤_};
 ghost use Rattle.rings.specs.Table.{prevOf, Frame};
 ghost use Rattle.rings.specs.Walk.{steps};
 ghost use Rattle.engine_rows.specs.Layout.{slotRow};
-ghost use Rattle.engine_index.specs.Shape.{indexBytes};
-ghost use Rattle.engine_index.specs.Slots.{Spares};
-ghost use Rattle.engine_index.specs.Stands.{stopAt, filed, Puts, Marks};
+ghost use Rattle.engine_index.specs.Layout.{indexBytes};
+ghost use Rattle.engine_index.specs.SlotPromises.{Spares};
+ghost use Rattle.engine_index.specs.Steps.{stopAt, filed};
+ghost use Rattle.engine_index.specs.Promises.{Puts, Marks};
 use line::Event;
 use line::State;
 
@@ -43,7 +44,7 @@ fn walk_back(b: &[u8], n: u16, o: u32, s: u16, e: Event, a: u16, fuel: u16) -> u
     at
 }
 
-// Node x goes to the place of the event e in the ring of s, found from the last one back. That is mostly behind the last: callers try it first.
+// Node x goes to the place of the event e in the ring of s, found from the last one back. That is mostly after the last: callers try it first.
 fn file(b: &mut [u8], n: u16, o: u32, k: u16, s: u16, e: Event, x: u16)
     requires { ⌜ n ≤ 256 ⌝ }
     ensures { λ _. ⌜ now (b .exit) ≡ filed (now (b .entry)) n o k s e x ⌝ }

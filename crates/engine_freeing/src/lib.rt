@@ -8,10 +8,11 @@ ghost use Prim.Native.Nat.{_≤_, _<_};
 ghost use Rattle.rings.specs.Table.{Frame};
 ghost use Rattle.engine_rows.specs.Layout.{slotRow};
 ghost use Rattle.engine_rows.specs.Records.{eventAt};
-ghost use Rattle.engine_index.specs.Shape.{indexBytes, slotOf};
-ghost use Rattle.engine_index.specs.Slots.{Spares, Sets};
+ghost use Rattle.engine_index.specs.Layout.{indexBytes, slotOf};
+ghost use Rattle.engine_index.specs.SlotPromises.{Spares, Sets};
 ghost use Rattle.engine_index.specs.Opening.{emptied, filled, Clears};
-ghost use Rattle.engine_index.specs.Stands.{Frees, Unmarks, Drops, Releases};
+ghost use Rattle.engine_index.specs.Steps.{Frees};
+ghost use Rattle.engine_index.specs.Promises.{Unmarks, Drops, Releases};
 
 // The run event of node x, the last of its station, is unrun again.
 pub fn unmark(b: &mut [u8], n: u16, c: u16, x: u16)

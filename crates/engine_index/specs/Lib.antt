@@ -1,4 +1,6 @@
-pub mod Shape
-pub mod Stands
-pub mod Slots
+pub mod Layout
+pub mod Represents
+pub mod Steps
+pub mod Promises
+pub mod SlotPromises
 pub mod Opening

@@ -5,8 +5,8 @@ use lib.ListN.{length}
 use Rattle.words.specs.Le.{storeAt}
 use Rattle.rings.specs.Table.{linkAfter, emptyAt}
 use Rattle.engine_rows.specs.Layout.{slotRow}
-use Rattle.engine_index.specs.Shape.{indexBytes}
-use Rattle.engine_index.specs.Stands.{Stands}
+use Rattle.engine_index.specs.Layout.{indexBytes}
+use Rattle.engine_index.specs.Represents.{Stands}
 
 -- ---- steps of the code
 

@@ -12,7 +12,7 @@ ghost use mathlib.Core.Path.{_≡_};
 ghost use Prim.Native.Nat.{_≤_};
 ghost use lib.ListN.{length};
 ghost use Rattle.rings.specs.Table.{nextOf, prevOf};
-ghost use Rattle.engine_index.specs.Shape.{linksAt, logAt, nodesOf, inRange, slotOf, FindsSlot};
+ghost use Rattle.engine_index.specs.Layout.{linksAt, logAt, nodesOf, inRange, slotOf, FindsSlot};
 
 // ---- shape
 
@@ -78,7 +78,7 @@ pub fn slot_in(b: &[u8], n: u16, c: u16, x: u16) -> u16
 
 // ---- the ends of a ring: a node, or the sentinel where the ring is empty
 
-// The node behind node x in the stations' rings and the free ring, and the one before it.
+// The node after node x in the stations' rings and the free ring, and the one before it.
 pub fn next(b: &[u8], n: u16, c: u16, x: u16) -> u16
     ensures { λ r. ⌜ r ≡ nextOf (now (b .entry)) (linksAt n c) x ⌝ }
 {
@@ -91,7 +91,7 @@ pub fn prev(b: &[u8], n: u16, c: u16, x: u16) -> u16
     rings::prev(b, links(n, c), x)
 }
 
-// The node behind node x in the log; 0 where the numbers are out of range.
+// The node after node x in the log; 0 where the numbers are out of range.
 pub fn next_logged(b: &[u8], n: u16, c: u16, x: u16) -> u16
     ensures { λ r. ⌜ ((n ≤ 256) → (c ≤ 4096) → r ≡ nextOf (now (b .entry)) (logAt n c) x) ⌝ }
 {

@@ -8,8 +8,8 @@ ghost use mathlib.Core.Bool.{true, false};
 ghost use Prim.Native.Nat.{_+_, _*_, _≤_, _<_};
 ghost use lib.ListN.{length};
 ghost use Rattle.rings.specs.Table.{Frame};
-ghost use Rattle.engine_events.specs.Count.{runsBelow};
-ghost use Rattle.engine_events.specs.Promises.{Behind, Tells, HoldsEvent, RunsEvent, UnrunsEvent, DiscardsEvent, ReleasesEvent, Raises, ClearsEvents};
+ghost use Rattle.engine_events.specs.RunCount.{runsBelow};
+ghost use Rattle.engine_events.specs.Promises.{AfterHeader, Tells, HoldsEvent, RunsEvent, UnrunsEvent, DiscardsEvent, ReleasesEvent, Raises, ClearsEvents};
 use line::Event;
 use line::State;
 
@@ -35,7 +35,7 @@ fn tell(b: &mut [u8], n: u16, c: u16, s: u16)
 
 // An event is held, unrun. Answers its node.
 pub fn hold(b: &mut [u8], n: u16, c: u16, e: Event) -> u16
-    ensures frame { λ _. ⌜ Behind (now (b .entry)) (now (b .exit)) ⌝ }
+    ensures frame { λ _. ⌜ AfterHeader (now (b .entry)) (now (b .exit)) ⌝ }
     ensures takes { λ r. ⌜ HoldsEvent n c (now (b .entry)) e r (now (b .exit)) ⌝ }
 {
     if engine_events::fits(b, n, c) {
@@ -51,7 +51,7 @@ pub fn hold(b: &mut [u8], n: u16, c: u16, e: Event) -> u16
 
 // The first unrun event of its station, of node x, has run: its station's state is the one after it, and its sends are at these nodes.
 pub fn run(b: &mut [u8], n: u16, c: u16, x: u16, after: State, first: u16, second: u16)
-    ensures frame { λ _. ⌜ Behind (now (b .entry)) (now (b .exit)) ⌝ }
+    ensures frame { λ _. ⌜ AfterHeader (now (b .entry)) (now (b .exit)) ⌝ }
     ensures runs { λ _. ⌜ RunsEvent n c (now (b .entry)) x after first second (now (b .exit)) ⌝ }
 {
     if engine_events::fits(b, n, c) {
@@ -74,7 +74,7 @@ pub fn run(b: &mut [u8], n: u16, c: u16, x: u16, after: State, first: u16, secon
 // The last run event of its station, of node x, is unrun again, and the station's state is that from before it. False where x is no run event's node:
 // then nothing is done.
 pub fn unrun(b: &mut [u8], n: u16, c: u16, x: u16) -> bool
-    ensures frame { λ _. ⌜ Behind (now (b .entry)) (now (b .exit)) ⌝ }
+    ensures frame { λ _. ⌜ AfterHeader (now (b .entry)) (now (b .exit)) ⌝ }
     ensures none { λ r. ⌜ (r ≡ false → now (b .exit) ≡ now (b .entry)) ⌝ }
     ensures fewer { λ r. ⌜ (r ≡ true → 1 + runsBelow n (now (b .exit)) c ≤ runsBelow n (now (b .entry)) c) ⌝ }
     ensures unruns { λ r. ⌜ UnrunsEvent n c (now (b .entry)) x r (now (b .exit)) ⌝ }
@@ -100,7 +100,7 @@ pub fn unrun(b: &mut [u8], n: u16, c: u16, x: u16) -> bool
 
 // The unrun event of node x leaves.
 pub fn discard(b: &mut [u8], n: u16, c: u16, x: u16)
-    ensures frame { λ _. ⌜ Behind (now (b .entry)) (now (b .exit)) ⌝ }
+    ensures frame { λ _. ⌜ AfterHeader (now (b .entry)) (now (b .exit)) ⌝ }
     ensures fewer { λ _. ⌜ runsBelow n (now (b .exit)) c ≤ runsBelow n (now (b .entry)) c ⌝ }
     ensures leaves { λ _. ⌜ DiscardsEvent n c (now (b .entry)) x (now (b .exit)) ⌝ }
 {
@@ -119,7 +119,7 @@ pub fn discard(b: &mut [u8], n: u16, c: u16, x: u16)
 
 // The first of all held events, a run one, of node x, leaves.
 pub fn release(b: &mut [u8], n: u16, c: u16, x: u16)
-    ensures frame { λ _. ⌜ Behind (now (b .entry)) (now (b .exit)) ⌝ }
+    ensures frame { λ _. ⌜ AfterHeader (now (b .entry)) (now (b .exit)) ⌝ }
     ensures releases { λ _. ⌜ ReleasesEvent n c (now (b .entry)) x (now (b .exit)) ⌝ }
 {
     engine_freeing::release(b, n, c, x);
@@ -127,7 +127,7 @@ pub fn release(b: &mut [u8], n: u16, c: u16, x: u16)
 
 // The commit time is raised.
 pub fn raise(b: &mut [u8], n: u16, c: u16, floor: u64)
-    ensures frame { λ _. ⌜ Behind (now (b .entry)) (now (b .exit)) ⌝ }
+    ensures frame { λ _. ⌜ AfterHeader (now (b .entry)) (now (b .exit)) ⌝ }
     ensures raises { λ _. ⌜ Raises n c floor (now (b .entry)) (now (b .exit)) ⌝ }
 {
     if engine_events::fits(b, n, c) {
@@ -140,7 +140,7 @@ pub fn raise(b: &mut [u8], n: u16, c: u16, floor: u64)
 
 // No event is held.
 pub fn clear(b: &mut [u8], n: u16, c: u16, width: u64)
-    ensures frame { λ _. ⌜ Behind (now (b .entry)) (now (b .exit)) ⌝ }
+    ensures frame { λ _. ⌜ AfterHeader (now (b .entry)) (now (b .exit)) ⌝ }
     ensures clears { λ _. ⌜ ClearsEvents n c width (now (b .entry)) (now (b .exit)) ⌝ }
 {
     if engine_events::fits(b, n, c) {

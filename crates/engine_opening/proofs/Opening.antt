@@ -20,8 +20,8 @@ use Rattle.plan_format.proofs.Accepted.{Accepted, accepted, accepted-in-range}
 use Rattle.engine_rows.specs.Layout.{stationRow}
 use Rattle.engine_rows.specs.Records.{stateAt, storedConfig}
 use Rattle.engine_rows.proofs.Rows.{word-in, config-in, state-in, header-station, row-other}
-use Rattle.engine_events.specs.Holds.{Holds}
-use Rattle.engine_events.specs.Promises.{Behind, ClearsEvents}
+use Rattle.engine_events.specs.Represents.{Holds}
+use Rattle.engine_events.specs.Promises.{AfterHeader, ClearsEvents}
 use Rattle.engine_events.proofs.Fitting.{fits-in}
 use Rattle.engine_answers.specs.declared.OpenAnswer.{OpenAnswer}
 use Rattle.engine_answers.specs.declared.OpenAnswer.the-variants.{Done, Refused as Unopened}
@@ -88,7 +88,7 @@ line-range plan n e =
     subst (λ (k : ℕ). InRange (record { count = k; config = λ s. stationAt plan s .config })) (accepted plan n e .counted) (accepted-in-range plan n e)
 
 module _ {plan : List ℕ} {n c width : ℕ} {xs ys zs : List ℕ} (e : judging plan ≡ Stations n) (g : 1 ≤ width) (h : width ≤ 1048576) (j : 2 ≤ c)
-    (k : c ≤ 4096) (l : 32768 + 256 * n + 256 * c ≤ length xs) (B : Begun plan n xs ys) (F : Behind (headed n c ys) zs)
+    (k : c ≤ 4096) (l : 32768 + 256 * n + 256 * c ≤ length xs) (B : Begun plan n xs ys) (F : AfterHeader (headed n c ys) zs)
     (C : ClearsEvents n c width (headed n c ys) zs) where
   a : Accepted plan n
   a = accepted plan n e
@@ -148,11 +148,11 @@ unread {width = width} {capacity = capacity} {xs = xs} r e = unopened r (ap (λ 
 
 pub opened-call : {plan : List ℕ} {n c width : ℕ} {xs y₀ y₁ y₂ y₃ y₄ zs : List ℕ} → judging plan ≡ Stations n → 1 ≤ width → width ≤ 1048576 → 2 ≤ c
     → c ≤ 4096 → 32768 + 256 * n + 256 * c ≤ length xs → Begun plan n xs y₀ → y₁ ≡ storeAt 8 0 n y₀ → y₂ ≡ storeAt 8 8 c y₁ → y₃ ≡ storeAt 8 16 0 y₂
-    → y₄ ≡ storeAt 8 24 0 y₃ → Behind y₄ zs → ClearsEvents n c width y₄ zs → Opens plan width c xs Done zs
+    → y₄ ≡ storeAt 8 24 0 y₃ → AfterHeader y₄ zs → ClearsEvents n c width y₄ zs → Opens plan width c xs Done zs
 opened-call {plan} {n} {c} {width} {xs} {y₀} {y₁} {y₂} {y₃} {y₄} {zs} e g h j k l B a₁ a₂ a₃ a₄ F C =
     let q : y₄ ≡ headed n c y₀ = rw (a₄, a₃, a₂, a₁) in
     record {
       answer = done plan e width c (length xs) g h j k l;
       refusal = λ r z. let z : _≡_ {A = ℕ} 0 1 = cc in absurd (omega arith);
-      opens = λ _. opens e g h j k l B (subst (λ (us : List ℕ). Behind us zs) q F) (subst (λ (us : List ℕ). ClearsEvents n c width us zs) q C);
+      opens = λ _. opens e g h j k l B (subst (λ (us : List ℕ). AfterHeader us zs) q F) (subst (λ (us : List ℕ). ClearsEvents n c width us zs) q C);
     }

@@ -14,10 +14,10 @@ use Rattle.line.specs.Station.{Plan}
 use Rattle.rules.specs.Held.{Held, unrun, ran, event, Queue, Found, heldPost}
 use Rattle.engine_rows.specs.Layout.{slotRow}
 use Rattle.engine_rows.specs.Records.{eventAt}
-use Rattle.engine_index.specs.Shape.{slotOf}
-use Rattle.engine_index.specs.Stands.{Cell, cell, statusAt, HeldAt}
-use Rattle.engine_events.specs.Holds.{heldOf, Has, Holds}
-use Rattle.engine_moves.proofs.Members.{member, member-slot}
+use Rattle.engine_index.specs.Layout.{slotOf}
+use Rattle.engine_index.specs.Represents.{Cell, cell, statusAt, HeldAt}
+use Rattle.engine_events.specs.Represents.{heldOf, Has, Holds}
+use Rattle.engine_moves.proofs.Cells.Members.{member, member-slot}
 use Rattle.engine_posting.specs.Steps.{isPostAt, FindsPost}
 use Rattle.engine_posting.proofs.EverySlot.{cell-or-free}
 

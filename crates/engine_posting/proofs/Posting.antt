@@ -24,26 +24,26 @@ use Rattle.rules.specs.Undo.{Does, Add}
 use Rattle.rules.specs.Engine.{Engine, Post, Refused, Posted}
 use Rattle.rules.specs.Calls.{postOf, Answers, post}
 use Rattle.rules.specs.Demand.{posts, retracted, logs}
-use Rattle.rules.proofs.Functions.{add}
-use Rattle.rules.proofs.Agree as G
-use Rattle.rules.proofs.Agree.{does-agree}
-use Rattle.rules.proofs.Exist.{can-add}
-use Rattle.rules.proofs.Count.{undone-undos, does-falls}
-use Rattle.rules.proofs.Invariant.{post-new}
+use Rattle.rules.proofs.Undo.Functions.{add}
+use Rattle.rules.proofs.Undo.Agree as G
+use Rattle.rules.proofs.Undo.Agree.{does-agree}
+use Rattle.rules.proofs.Undo.Exist.{can-add}
+use Rattle.rules.proofs.Undo.Count.{undone-undos, does-falls}
+use Rattle.rules.proofs.Calls.Invariant.{post-new}
 use Rattle.engine_rows.specs.Records.{EventFits}
-use Rattle.engine_index.specs.Stands.{cell}
-use Rattle.engine_events.specs.Promises.{Behind}
-use Rattle.engine_rollback.specs.Mid.{RollsTo}
+use Rattle.engine_index.specs.Represents.{cell}
+use Rattle.engine_events.specs.Promises.{AfterHeader}
+use Rattle.engine_rollback.specs.BetweenSteps.{RollsTo}
 use Rattle.engine_rollback.specs.Promises.{Adds}
 use Rattle.engine_rollback.proofs.Cells.{held-length}
 use Rattle.engine_promises.specs.Represents.{Represents}
 use Rattle.engine_promises.specs.Promises.{Becomes, Answered}
 use Rattle.engine_promises.specs.Steps.{atMost, Full}
-use Rattle.engine_promises.proofs.Standing.{made, invariant, neat, waiting, mid, reached-next}
+use Rattle.engine_promises.proofs.Invariant.{made, invariant, neat, waiting, mid, reached-next}
 use Rattle.engine_promises.proofs.Header.{header-frame, header-word, header-other, header-kept, header-holds, fits-read, stations-few}
-use Rattle.engine_promises.proofs.Verdicts.{post-9, post-10, post-11, post-12, post-16, post-17, post-accepted}
+use Rattle.engine_promises.proofs.PostRunChecks.{post-9, post-10, post-11, post-12, post-16, post-17, post-accepted}
 use Rattle.engine_promises.proofs.NewEvents.{as-new}
-use Rattle.engine_promises.proofs.Refusing.{refusing}
+use Rattle.engine_promises.proofs.Refused.{refusing}
 
 -- ---- the value of a matter that a kind and a value mean
 
@@ -69,7 +69,7 @@ matter-fits n kind value m h e = go (eqb kind 1) (eqb kind 2) (eqb kind 3) (ltb 
 
 module _ {p : Plan} {e : Engine} {xs : List ℕ} (R : Represents p e xs) (s t kind value : ℕ) (m : Matter) (h : s < p .count)
     (k : matterOf (p .count) kind value ≡ Means m) (l : t ≤ horizon) (w : e .now ≤ t) (z : e .next ≤ 4294967295)
-    (v : length (R .cells) < e .capacity) {node j : ℕ} {ys : List ℕ} (F : Behind xs ys)
+    (v : length (R .cells) < e .capacity) {node j : ℕ} {ys : List ℕ} (F : AfterHeader xs ys)
     (D : Adds (p .count) (e .capacity) xs (postOf (e .next) s t m) node j ys) where
   x : Event
   x = postOf (e .next) s t m
@@ -187,7 +187,7 @@ module _ {xs : List ℕ} {n c : ℕ} (S : n ≡ atMost 256 (loadAt 8 0 xs)) (K :
                 post-17 p e s t kind value (omega arith) m (rw a k) l (omega (arith, i, R .now)) (omega (arith, j, R .next))
                 (omega (arith, y, held-length (R .cells), ap length (R .holds .stores .held))))
 
-            pub post-done : Full n c xs false → {node u : ℕ} {ys zs : List ℕ} → Behind xs ys
+            pub post-done : Full n c xs false → {node u : ℕ} {ys zs : List ℕ} → AfterHeader xs ys
                 → Adds n c xs (record { time = t; target = s; source = posted; number = number; matter = m }) node u ys
                 → zs ≡ storeAt 8 24 (number + 1) ys → Answered (Post s t kind value) (Posted number u) xs zs
             unfolding postOf

@@ -15,23 +15,23 @@ use Rattle.rules.specs.Engine.{Engine, Retract, Refused, Retracted}
 use Rattle.rules.specs.Checks.{checks}
 use Rattle.rules.specs.Calls.{with, Answers, refuse, retract}
 use Rattle.rules.specs.Demand.{posts, retracted, logs}
-use Rattle.rules.proofs.Functions.{remove}
-use Rattle.rules.proofs.Insert.{insert}
-use Rattle.rules.proofs.Cascade.{Ok}
-use Rattle.rules.proofs.Exist.{IsHeld, is-unrun, is-run, can-remove}
-use Rattle.rules.proofs.Agree.{does-agree}
-use Rattle.rules.proofs.Count.{undone-undos, does-falls}
-use Rattle.engine_index.specs.Stands.{cell}
-use Rattle.engine_events.specs.Holds.{Has}
-use Rattle.engine_events.specs.Promises.{Behind}
-use Rattle.engine_moves.proofs.Splits.{held-in}
-use Rattle.engine_rollback.specs.Mid.{Mid, RollsTo}
+use Rattle.rules.proofs.Undo.Functions.{remove}
+use Rattle.rules.proofs.Machine.Insert.{insert}
+use Rattle.rules.proofs.Undo.Cascade.{Ok}
+use Rattle.rules.proofs.Undo.Exist.{IsHeld, is-unrun, is-run, can-remove}
+use Rattle.rules.proofs.Undo.Agree.{does-agree}
+use Rattle.rules.proofs.Undo.Count.{undone-undos, does-falls}
+use Rattle.engine_index.specs.Represents.{cell}
+use Rattle.engine_events.specs.Represents.{Has}
+use Rattle.engine_events.specs.Promises.{AfterHeader}
+use Rattle.engine_moves.proofs.Cells.Split.{held-in}
+use Rattle.engine_rollback.specs.BetweenSteps.{Mid, RollsTo}
 use Rattle.engine_rollback.specs.Promises.{Removes}
 use Rattle.engine_promises.specs.Represents.{Represents}
 use Rattle.engine_promises.specs.Steps.{atMost}
 use Rattle.engine_posting.specs.Steps.{FindsPost}
 use Rattle.engine_promises.specs.Promises.{Becomes, Answered}
-use Rattle.engine_promises.proofs.Standing.{made, invariant, neat, waiting, reached-next}
+use Rattle.engine_promises.proofs.Invariant.{made, invariant, neat, waiting, reached-next}
 use Rattle.engine_promises.proofs.Header.{header-kept, fits-read}
 use Rattle.engine_posting.proofs.OnePost.{the-post, waits-inserted, post-fresh}
 
@@ -53,7 +53,7 @@ module _ {p : Plan} {e : Engine} {xs : List ℕ} (R : Represents p e xs) (number
 
   -- the post of node x is removed
   module _ (h : Held) {x k : ℕ} {ys : List ℕ} (m : Has (cell x h) (R .cells)) (s : event h .source ≡ posted) (l : event h .number ≡ number)
-      (F : Behind xs ys) (D : Removes (p .count) (e .capacity) xs x k ys) where
+      (F : AfterHeader xs ys) (D : Removes (p .count) (e .capacity) xs x k ys) where
     held : In h (e .queue .held)
     held = rw (sym (R .holds .stores .held)) (held-in (R .cells) (cell x h) m)
 
@@ -106,7 +106,7 @@ module _ {p : Plan} {e : Engine} {xs : List ℕ} (R : Represents p e xs) (number
     }
 
   -- as the call finds it
-  retract-found : {n c x k : ℕ} {ys : List ℕ} → p .count ≡ n → e .capacity ≡ c → FindsPost n c number xs x → x ≢ 0 → Behind xs ys → Removes n c xs x k ys
+  retract-found : {n c x k : ℕ} {ys : List ℕ} → p .count ≡ n → e .capacity ≡ c → FindsPost n c number xs x → x ≢ 0 → AfterHeader xs ys → Removes n c xs x k ys
       → Becomes p e (Retract number) (Retracted k) ys
   retract-found {n} {c} {x} {k} {ys} a b f d F D =
       let g : FindsPost (p .count) (e .capacity) number xs x = rw (a, b) f in
@@ -125,7 +125,7 @@ module _ {xs : List ℕ} {n c number x : ℕ} (k : n ≡ atMost 256 (loadAt 8 0 
   pub unknown-post : x ≡ 0 → Answered (Retract number) (Refused 13) xs xs
   unknown-post z = record { refusal = λ i q. refl; answer = λ p e R. let w = fits-read R k m in retract-unfound R number (w .0) (w .1) f z }
 
-  pub removed-post : {u : ℕ} {ys : List ℕ} → x ≢ 0 → Behind xs ys → Removes n c xs x u ys → Answered (Retract number) (Retracted u) xs ys
+  pub removed-post : {u : ℕ} {ys : List ℕ} → x ≢ 0 → AfterHeader xs ys → Removes n c xs x u ys → Answered (Retract number) (Retracted u) xs ys
   removed-post d F D = record {
     refusal = λ i q. let z : _≡_ {A = ℕ} 0 1 = cc in absurd (omega arith);
     answer = λ p e R. let w = fits-read R k m in retract-found R number (w .0) (w .1) f d F D;

@@ -11,8 +11,8 @@ use Rattle.rules.specs.Held.{Held, event, Queue, Found, heldPost}
 use Rattle.words.specs.Le.{loadAt}
 use Rattle.engine_rows.specs.Layout.{slotRow}
 use Rattle.engine_rows.specs.Records.{eventAt}
-use Rattle.engine_index.specs.Stands.{Cell, cell}
-use Rattle.engine_events.specs.Holds.{Has, Holds}
+use Rattle.engine_index.specs.Represents.{Cell, cell}
+use Rattle.engine_events.specs.Represents.{Has, Holds}
 
 -- does slot i hold a post with that number?
 unfoldable pub isPostAt : List ℕ → ℕ → ℕ → ℕ → Bool

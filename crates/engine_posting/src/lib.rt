@@ -6,7 +6,7 @@
 ghost use mathlib.Core.Path.{_≡_};
 ghost use Prim.Native.Nat.{_≤_};
 ghost use Rattle.rules.specs.Engine.Call.{Post, Retract};
-ghost use Rattle.engine_promises.specs.Said.{postSaid, retractSaid};
+ghost use Rattle.engine_promises.specs.Answers.{postSaid, retractSaid};
 ghost use Rattle.engine_promises.specs.Promises.{Answered};
 ghost use Rattle.engine_promises.specs.Steps.{Full};
 ghost use Rattle.engine_posting.specs.Steps.{isPostAt, FindsPost};

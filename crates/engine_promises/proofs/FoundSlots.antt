@@ -7,10 +7,10 @@ use lib.ListN.{length}
 use Rattle.line.specs.declared.Event.{Event}
 use Rattle.engine_rows.specs.Layout.{slotRow}
 use Rattle.engine_rows.specs.Records.{eventAt}
-use Rattle.engine_index.specs.Shape.{slotOf, IsSlot, FindsSlot}
-use Rattle.engine_index.specs.Stands.{Cell, Stands}
-use Rattle.engine_events.specs.Holds.{Has}
-use Rattle.engine_moves.proofs.Members.{member}
+use Rattle.engine_index.specs.Layout.{slotOf, IsSlot, FindsSlot}
+use Rattle.engine_index.specs.Represents.{Cell, Stands}
+use Rattle.engine_events.specs.Represents.{Has}
+use Rattle.engine_moves.proofs.Cells.Members.{member}
 
 pub cell-slot : {n c : ℕ} {xs : List ℕ} {cells : List Cell} {free : List ℕ} → Stands n c xs cells free → (y : Cell) → Has y cells
     → IsSlot n c (length xs) (y .node)

@@ -11,9 +11,9 @@ use lib.ListN.{length}
 use Rattle.rings.specs.Table.{nextOf}
 use Rattle.rings.specs.Ring.{headOf, RingIn}
 use Rattle.rings.proofs.Places.{next-of, first-of}
-use Rattle.engine_index.specs.Shape.{linksAt, nodesOf}
-use Rattle.engine_index.specs.Stands.{Cell, Stands}
-use Rattle.engine_index.proofs.Contents.{contents-free}
+use Rattle.engine_index.specs.Layout.{linksAt, nodesOf}
+use Rattle.engine_index.specs.Represents.{Cell, Stands}
+use Rattle.engine_index.proofs.Rings.Contents.{contents-free}
 use Rattle.engine_promises.specs.Steps.{Full, HasRoom}
 
 -- r says of m what the f free places do
@@ -38,7 +38,7 @@ module _ {n c : ℕ} {xs : List ℕ} where
   second : {cells : List Cell} {x : ℕ} {free : List ℕ} → Stands n c xs cells (x ∷ free) → nextOf xs (linksAt n c) x ≡ headOf free (2 * n)
   second {cells} {x} {free} S = next-of [] x free (ring S)
 
-  -- no place is free where the sentinel is behind itself
+  -- no place is free where the sentinel is after itself
   none-free : {cells : List Cell} (free : List ℕ) → Stands n c xs cells free → nextOf xs (linksAt n c) (2 * n) ≡ 2 * n → length free ≡ 0
   none-free [] S e = refl
   none-free (x ∷ fs) S e = let k : x ≡ 2 * n = sym (first S) ∙ e in absurd (omega (arith, S .unused .1))

@@ -1,4 +1,4 @@
--- The header's words: what lies behind them stays when one is stored, and they stay when what lies behind them changes.
+-- The header's words: what lies after them stays when one is stored, and they stay when what lies after them changes.
 use mathlib.Core.Path.{_≡_, sym, _∙_}
 use mathlib.Core.Logic.{_≢_, inl, inr}
 use mathlib.Core.Bool.{Bool, true, false, true≢false}
@@ -16,11 +16,11 @@ use Rattle.rules.specs.Engine.{Engine}
 use Rattle.rings.specs.Table.{Frame}
 use Rattle.rings.proofs.Frames.{store-frame, frame-wider}
 use Rattle.engine_rows.proofs.Rows.{words}
-use Rattle.engine_index.specs.Stands.{Cell}
-use Rattle.engine_events.specs.Holds.{part, fitsIn, Holds}
-use Rattle.engine_events.specs.Promises.{Behind}
-use Rattle.engine_events.proofs.Parts.{byte-kept}
-use Rattle.engine_events.proofs.Keeps.{stores-kept}
+use Rattle.engine_index.specs.Represents.{Cell}
+use Rattle.engine_events.specs.Represents.{part, fitsIn, Holds}
+use Rattle.engine_events.specs.Promises.{AfterHeader}
+use Rattle.engine_events.proofs.CalendarPart.{byte-kept}
+use Rattle.engine_events.proofs.StationsKept.{stores-kept}
 use Rattle.engine_events.proofs.Fitting.{stores-fit}
 use Rattle.engine_promises.specs.Represents.{Represents}
 use Rattle.engine_promises.specs.Steps.{atMost}
@@ -37,10 +37,10 @@ header-word i v xs h l w = load-stored 8 (8 * i) v xs (omega arith) w
 pub header-other : (i j v : ℕ) (xs : List ℕ) → i ≢ j → loadAt 8 (8 * j) (storeAt 8 (8 * i) v xs) ≡ loadAt 8 (8 * j) xs
 header-other i j v xs d = load-other 8 8 (8 * i) v xs (8 * j) (words i j d)
 
-pub header-kept : {xs ys : List ℕ} → Behind xs ys → (i : ℕ) → i < 8 → loadAt 8 (8 * i) ys ≡ loadAt 8 (8 * i) xs
+pub header-kept : {xs ys : List ℕ} → AfterHeader xs ys → (i : ℕ) → i < 8 → loadAt 8 (8 * i) ys ≡ loadAt 8 (8 * i) xs
 header-kept F i h = F .loads 8 (8 * i) (inr (omega arith))
 
--- ---- what lies behind
+-- ---- what lies after
 
 part-same : {xs ys : List ℕ} (n : ℕ) → Frame 0 64 xs ys → part n ys ≡ part n xs
 part-same {xs} {ys} n F =

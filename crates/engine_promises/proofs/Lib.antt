@@ -1,9 +1,9 @@
-pub mod Standing
+pub mod Invariant
 pub mod Header
 pub mod Bounds
-pub mod Unfit
-pub mod Refusing
-pub mod Verdicts
+pub mod ShortBuffer
+pub mod Refused
+pub mod PostRunChecks
 pub mod FreePlaces
 pub mod FoundSlots
 pub mod NewEvents

@@ -4,8 +4,8 @@ use Rattle.line.specs.declared.Event.{Event}
 use Rattle.line.proofs.Order.{Differ, differ-sym}
 use Rattle.rules.specs.Held.{Held, event}
 use Rattle.rules.proofs.Members.{all-in}
-use Rattle.rules.proofs.Sub.{differ-same}
-use Rattle.rules.proofs.Agree as G
+use Rattle.rules.proofs.Replay.RunsLeft.{differ-same}
+use Rattle.rules.proofs.Undo.Agree as G
 use Rattle.engine_events.specs.Promises.{New}
 
 -- new as the rules have it is new as the queue has it

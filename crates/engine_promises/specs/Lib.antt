@@ -1,4 +1,4 @@
 pub mod Represents
-pub mod Said
+pub mod Answers
 pub mod Promises
 pub mod Steps

@@ -7,8 +7,8 @@ use Rattle.line.specs.Station.{Plan, InRange}
 use Rattle.rules.specs.Engine.{Engine, opened}
 use Rattle.rules.specs.Demand.{Made, Calls}
 use Rattle.plan_format.specs.Plan.{count, stationAt}
-use Rattle.engine_index.specs.Stands.{Cell}
-use Rattle.engine_events.specs.Holds.{Holds}
+use Rattle.engine_index.specs.Represents.{Cell}
+use Rattle.engine_events.specs.Represents.{Holds}
 
 -- the line of a plan's bytes
 unfoldable pub lineOf : List ℕ → Plan
@@ -19,7 +19,7 @@ pub record Reached (p : Plan) (e : Engine) : Type 0 where
   pub calls : List Made
   pub made : Calls p (opened p (e .capacity)) calls e
 
--- the header's words: stations, capacity, commit time and the next post's number; behind them the queue
+-- the header's words: stations, capacity, commit time and the next post's number; after them the queue
 pub record Represents (p : Plan) (e : Engine) (xs : List ℕ) : Type 0 where
   pub range : InRange p
   pub reached : Reached p e

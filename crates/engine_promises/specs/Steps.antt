@@ -7,8 +7,8 @@ use lib.Dec.{ltb, leb}
 use lib.ListN.{length}
 use Rattle.line.specs.Station.{Plan}
 use Rattle.rules.specs.Held.{Queue}
-use Rattle.engine_index.specs.Stands.{Cell}
-use Rattle.engine_events.specs.Holds.{Holds}
+use Rattle.engine_index.specs.Represents.{Cell}
+use Rattle.engine_events.specs.Represents.{Holds}
 
 -- ---- the header
 

@@ -13,20 +13,20 @@ use Rattle.line.specs.Station.{Plan, States}
 use Rattle.line.proofs.Order.{Lt}
 use Rattle.line.proofs.All.{All}
 use Rattle.rules.specs.Held.{unrun, event, Queue, same, place}
-use Rattle.rules.proofs.Functions.{runs, undoFrom, add}
-use Rattle.rules.proofs.Replay.{Clear}
+use Rattle.rules.proofs.Undo.Functions.{runs, undoFrom, add}
+use Rattle.rules.proofs.Replay.Replay.{Clear}
 use Rattle.rules.proofs.Members.{all-in, in-all}
-use Rattle.rules.proofs.Place.{place-runs}
-use Rattle.rules.proofs.Fuel.{undo-none}
-use Rattle.rules.proofs.Neat.{in-run}
-use Rattle.rules.proofs.Agree.{clear-none, does-agree, does-each}
-use Rattle.rules.proofs.Exist.{can, CanUndoLater}
-use Rattle.rules.proofs.Room.{does-length}
+use Rattle.rules.proofs.Replay.Place.{place-runs}
+use Rattle.rules.proofs.Undo.Fuel.{undo-none}
+use Rattle.rules.proofs.Replay.Neat.{in-run}
+use Rattle.rules.proofs.Undo.Agree.{clear-none, does-agree, does-each}
+use Rattle.rules.proofs.Undo.Exist.{can, CanUndoLater}
+use Rattle.rules.proofs.Calls.Room.{does-length}
 use Rattle.engine_rows.specs.Records.{EventFits}
-use Rattle.engine_index.specs.Stands.{Cell, cell}
-use Rattle.engine_events.specs.Holds.{From, heldOf}
+use Rattle.engine_index.specs.Represents.{Cell, cell}
+use Rattle.engine_events.specs.Represents.{From, heldOf}
 use Rattle.engine_events.specs.Promises.{Becomes, New, HoldsEvent}
-use Rattle.engine_rollback.specs.Mid.{Mid, RollsTo}
+use Rattle.engine_rollback.specs.BetweenSteps.{Mid, RollsTo}
 use Rattle.engine_rollback.proofs.Cells.{held-has, has-held, held-length, from-on, from-under}
 
 -- an event new to the cells is new to cells made from them

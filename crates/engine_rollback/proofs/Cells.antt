@@ -7,9 +7,9 @@ use Rattle.line.specs.declared.Event.{Event}
 use Rattle.line.proofs.Order.{Lt, Ge, irr, clash}
 use Rattle.line.proofs.All.{All}
 use Rattle.rules.specs.Held.{Held, unrun, ran, event, In}
-use Rattle.rules.proofs.Exist.{IsHeld, is-unrun, is-run}
-use Rattle.engine_index.specs.Stands.{Cell, cell, AllBehind, Sorted}
-use Rattle.engine_events.specs.Holds.{heldOf, Has, From, Nodes, none, more}
+use Rattle.rules.proofs.Undo.Exist.{IsHeld, is-unrun, is-run}
+use Rattle.engine_index.specs.Represents.{Cell, cell, AllAfter, Sorted}
+use Rattle.engine_events.specs.Represents.{heldOf, Has, From, Nodes, none, more}
 
 -- ---- cells and held events
 
@@ -27,13 +27,13 @@ held-length (y ∷ ys) = ap (λ n. suc n) (held-length ys)
 
 -- ---- one cell an event
 
-behind-in : {e : Event} {y : Cell} {cells : List Cell} → Has y cells → AllBehind e cells → Lt e (event (y .held))
-behind-in {e} (List·Memᴰ·head q) a = subst (λ (z : Cell). Lt e (event (z .held))) (sym q) (record { is = a .0 })
-behind-in (List·Memᴰ·tail m) a = behind-in m (a .1)
+after-in : {e : Event} {y : Cell} {cells : List Cell} → Has y cells → AllAfter e cells → Lt e (event (y .held))
+after-in {e} (List·Memᴰ·head q) a = subst (λ (z : Cell). Lt e (event (z .held))) (sym q) (record { is = a .0 })
+after-in (List·Memᴰ·tail m) a = after-in m (a .1)
 
 -- an event in front of cells is none of theirs
-apart : {e : Event} {z : Cell} {cells : List Cell} → Has z cells → AllBehind e cells → e ≡ event (z .held) → ⊥
-apart {e} {z} m a q = clash (behind-in m a) (subst (λ f. Ge f (event (z .held))) (sym q) (irr (event (z .held))))
+apart : {e : Event} {z : Cell} {cells : List Cell} → Has z cells → AllAfter e cells → e ≡ event (z .held) → ⊥
+apart {e} {z} m a q = clash (after-in m a) (subst (λ f. Ge f (event (z .held))) (sym q) (irr (event (z .held))))
 
 pub one-cell : {y z : Cell} {cells : List Cell} → Sorted cells → Has y cells → Has z cells → event (y .held) ≡ event (z .held) → y ≡ z
 one-cell o (List·Memᴰ·head a) (List·Memᴰ·head b) q = a ∙ sym b

@@ -6,20 +6,20 @@ use native.Mathlib.Omega.{arith}
 use Rattle.line.specs.declared.Event.{Event}
 use Rattle.line.specs.Station.{Plan, States}
 use Rattle.rules.specs.Held.{Held, unrun, event, In, Queue, delete}
-use Rattle.rules.proofs.Functions.{runs, undoFrom, remove}
-use Rattle.rules.proofs.Insert.{insert}
+use Rattle.rules.proofs.Undo.Functions.{runs, undoFrom, remove}
+use Rattle.rules.proofs.Machine.Insert.{insert}
 use Rattle.rules.proofs.Members.{all-in}
-use Rattle.rules.proofs.Replay.{Fresh, Clear}
-use Rattle.rules.proofs.Cascade.{Undone, undo-from}
-use Rattle.rules.proofs.Fuel.{undo-none}
-use Rattle.rules.proofs.Agree.{clear-none}
-use Rattle.rules.proofs.Count.{delete-same-runs}
-use Rattle.engine_index.specs.Stands.{Cell, cell}
-use Rattle.engine_events.specs.Holds.{Has, Stores}
+use Rattle.rules.proofs.Replay.Replay.{Fresh, Clear}
+use Rattle.rules.proofs.Undo.Cascade.{Undone, undo-from}
+use Rattle.rules.proofs.Undo.Fuel.{undo-none}
+use Rattle.rules.proofs.Undo.Agree.{clear-none}
+use Rattle.rules.proofs.Undo.Count.{delete-same-runs}
+use Rattle.engine_index.specs.Represents.{Cell, cell}
+use Rattle.engine_events.specs.Represents.{Has, Stores}
 use Rattle.engine_events.specs.Promises.{Becomes, DiscardsEvent}
-use Rattle.engine_rollback.specs.Mid.{Mid, RollsTo}
+use Rattle.engine_rollback.specs.BetweenSteps.{Mid, RollsTo}
 use Rattle.engine_rollback.proofs.Cells.{has-held, from-same, from-on, same-node}
-use Rattle.engine_rollback.proofs.Gone.{is-held, is-waiting, fresh-unsent}
+use Rattle.engine_rollback.proofs.TakenOut.{is-held, is-waiting, fresh-unsent}
 
 module _ {p : Plan} {n c now : ℕ} {xs : List ℕ} {q : Queue} {cells : List Cell} (ws : List Event) {st : States} {x : ℕ} (h : Held)
     (M : Mid p n c now xs q cells (insert (event h) ws) st) (m : Has (cell x h) cells) where

@@ -11,28 +11,28 @@ use Rattle.line.proofs.Order.{Ge}
 use Rattle.line.proofs.All.{All}
 use Rattle.rules.specs.Held.{ran, event, In, Queue, unmark}
 use Rattle.rules.specs.Undo.{NoneLater}
-use Rattle.rules.proofs.Functions.{runs, removeAll, undoEvent}
+use Rattle.rules.proofs.Undo.Functions.{runs, removeAll, undoEvent}
 use Rattle.rules.proofs.Members.{all-in}
-use Rattle.rules.proofs.Replay.{sends-later}
-use Rattle.rules.proofs.Unmark.{Latest, found-runs}
-use Rattle.rules.proofs.Marked.{first-in}
-use Rattle.rules.proofs.Cascade.{found-after, found-new}
-use Rattle.rules.proofs.Neat.{unmark-neat}
-use Rattle.rules.proofs.Unrun.{unrun-in}
-use Rattle.rules.proofs.Exist.{IsHeld}
-use Rattle.rules.proofs.Registered.{run-none-before, unmark-first}
+use Rattle.rules.proofs.Replay.Replay.{sends-later}
+use Rattle.rules.proofs.Replay.Unmark.{Latest, found-runs}
+use Rattle.rules.proofs.Undo.RunFirst.{first-in}
+use Rattle.rules.proofs.Undo.Cascade.{found-after, found-new}
+use Rattle.rules.proofs.Replay.Neat.{unmark-neat}
+use Rattle.rules.proofs.Replay.LeastUnrun.{unrun-in}
+use Rattle.rules.proofs.Undo.Exist.{IsHeld}
+use Rattle.rules.proofs.Replay.Registered.{run-none-before, unmark-first}
 use Rattle.engine_rows.specs.Layout.{slotRow}
-use Rattle.engine_index.specs.Shape.{slotOf}
-use Rattle.engine_index.specs.Stands.{Cell, cell}
-use Rattle.engine_events.specs.Holds.{Has, Holds, Nodes, none, nonzero, sendsAt}
+use Rattle.engine_index.specs.Layout.{slotOf}
+use Rattle.engine_index.specs.Represents.{Cell, cell}
+use Rattle.engine_events.specs.Represents.{Has, Holds, Nodes, none, nonzero, sendsAt}
 use Rattle.engine_events.specs.Promises.{NoneWaits, Becomes}
-use Rattle.engine_rollback.specs.Mid.{Mid, RollsTo}
+use Rattle.engine_rollback.specs.BetweenSteps.{Mid, RollsTo}
 use Rattle.engine_rollback.specs.Promises.{RemovesBelow}
-use Rattle.engine_rollback.proofs.Down.{sends-down}
+use Rattle.engine_rollback.proofs.SendTargets.{sends-down}
 use Rattle.engine_rollback.proofs.Cells.{has-held, from-on, nodes-stay}
-use Rattle.engine_rollback.proofs.Gone.{are-held}
-use Rattle.engine_rollback.proofs.Stays.{latest-of}
-use Rattle.engine_rollback.proofs.Due.{Child, Due, Partly, partly}
+use Rattle.engine_rollback.proofs.TakenOut.{are-held}
+use Rattle.engine_rollback.proofs.OrderKept.{latest-of}
+use Rattle.engine_rollback.proofs.SendsRemoved.{Child, Due, Partly, partly}
 
 -- all of two facts
 both : {P Q : Event → Type 0} {R : Event → Type 0} → ((y : Event) → P y → Q y → R y) → (ys : List Event) → All P ys → All Q ys → All R ys

@@ -1,2 +1,2 @@
-pub mod Mid
+pub mod BetweenSteps
 pub mod Promises

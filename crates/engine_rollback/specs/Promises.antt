@@ -9,14 +9,14 @@ use Rattle.line.specs.declared.State.{State}
 use Rattle.line.specs.Station.{Plan, States}
 use Rattle.rules.specs.Held.{Held, unrun, ran, event, Queue, unmark}
 use Rattle.rules.specs.Undo.{NoneLater}
-use Rattle.rules.proofs.Functions.{undoFrom, undoEvent, remove, add}
-use Rattle.rules.proofs.Insert.{insert}
-use Rattle.rules.proofs.Replay.{Fresh, Clear}
+use Rattle.rules.proofs.Undo.Functions.{undoFrom, undoEvent, remove, add}
+use Rattle.rules.proofs.Machine.Insert.{insert}
+use Rattle.rules.proofs.Replay.Replay.{Fresh, Clear}
 use Rattle.engine_rows.specs.Records.{EventFits}
-use Rattle.engine_index.specs.Stands.{Cell, cell}
-use Rattle.engine_events.specs.Holds.{Has}
+use Rattle.engine_index.specs.Represents.{Cell, cell}
+use Rattle.engine_events.specs.Represents.{Has}
 use Rattle.engine_events.specs.Promises.{New}
-use Rattle.engine_rollback.specs.Mid.{Mid, RollsTo}
+use Rattle.engine_rollback.specs.BetweenSteps.{Mid, RollsTo}
 
 -- "to undo a run event is to make it unrun, restore its station's state from before it, and remove its sends": the event of node x
 abbrev pub Undoes : ℕ → ℕ → List ℕ → ℕ → ℕ → List ℕ → Type 0

@@ -8,15 +8,15 @@
 ghost use mathlib.Core.Path.{_≡_};
 ghost use mathlib.Core.Bool.{true};
 ghost use Prim.Native.Nat.{_+_, _≤_, _<_};
-ghost use Rattle.engine_events.specs.Count.{runsBelow};
-ghost use Rattle.engine_events.specs.Promises.{Behind};
+ghost use Rattle.engine_events.specs.RunCount.{runsBelow};
+ghost use Rattle.engine_events.specs.Promises.{AfterHeader};
 ghost use Rattle.engine_rollback.specs.Promises.{Undoes, UndoesFrom, RemovesBelow, Removes, Adds};
 use line::Event;
 
 // The run event of node x, the latest of its station, is undone. Answers how many events are.
 fn undo(b: &mut [u8], n: u16, c: u16, x: u16) -> u64
     requires { ⌜ n ≤ 256 ⌝ }
-    ensures frame { λ _. ⌜ Behind (now (b .entry)) (now (b .exit)) ⌝ }
+    ensures frame { λ _. ⌜ AfterHeader (now (b .entry)) (now (b .exit)) ⌝ }
     ensures fewer { λ r. ⌜ r + runsBelow n (now (b .exit)) c ≤ runsBelow n (now (b .entry)) c ⌝ }
     ensures undoes { λ r. ⌜ Undoes n c (now (b .entry)) x r (now (b .exit)) ⌝ }
 {
@@ -38,7 +38,7 @@ fn undo(b: &mut [u8], n: u16, c: u16, x: u16) -> u64
 // The run events of station s from e on are undone, latest first.
 fn undo_from(b: &mut [u8], n: u16, c: u16, s: u16, e: Event) -> u64
     requires { ⌜ (n ≤ 256) × (s < n) ⌝ }
-    ensures frame { λ _. ⌜ Behind (now (b .entry)) (now (b .exit)) ⌝ }
+    ensures frame { λ _. ⌜ AfterHeader (now (b .entry)) (now (b .exit)) ⌝ }
     ensures fewer { λ r. ⌜ r + runsBelow n (now (b .exit)) c ≤ runsBelow n (now (b .entry)) c ⌝ }
     ensures undoes { λ r. ⌜ UndoesFrom n c (now (b .entry)) s e r (now (b .exit)) ⌝ }
 {
@@ -62,7 +62,7 @@ fn undo_from(b: &mut [u8], n: u16, c: u16, s: u16, e: Event) -> u64
 // The event of node x is removed; nothing where x is 0. On to its target only where that is below s.
 fn remove_below(b: &mut [u8], n: u16, c: u16, s: u16, x: u16) -> u64
     requires { ⌜ (n ≤ 256) × (s ≤ n) ⌝ }
-    ensures frame { λ _. ⌜ Behind (now (b .entry)) (now (b .exit)) ⌝ }
+    ensures frame { λ _. ⌜ AfterHeader (now (b .entry)) (now (b .exit)) ⌝ }
     ensures fewer { λ r. ⌜ r + runsBelow n (now (b .exit)) c ≤ runsBelow n (now (b .entry)) c ⌝ }
     ensures nothing { λ r. ⌜ (x ≡ 0 → (r ≡ 0) × (now (b .exit) ≡ now (b .entry))) ⌝ }
     ensures removes { λ r. ⌜ RemovesBelow n c (now (b .entry)) s x r (now (b .exit)) ⌝ }
@@ -83,7 +83,7 @@ fn remove_below(b: &mut [u8], n: u16, c: u16, s: u16, x: u16) -> u64
 
 // The event of node x is removed. Answers how many events are undone.
 pub fn remove(b: &mut [u8], n: u16, c: u16, x: u16) -> u64
-    ensures frame { λ _. ⌜ Behind (now (b .entry)) (now (b .exit)) ⌝ }
+    ensures frame { λ _. ⌜ AfterHeader (now (b .entry)) (now (b .exit)) ⌝ }
     ensures few { λ r. ⌜ r ≤ c ⌝ }
     ensures removes { λ r. ⌜ Removes n c (now (b .entry)) x r (now (b .exit)) ⌝ }
 {
@@ -108,7 +108,7 @@ fn settled(b: &[u8], n: u16, c: u16, s: u16, e: Event) -> bool
 // Does what undo_from does; mostly there is nothing to undo, and a few steps tell.
 fn roll_back(b: &mut [u8], n: u16, c: u16, s: u16, e: Event) -> u64
     requires { ⌜ (n ≤ 256) × (s < n) ⌝ }
-    ensures frame { λ _. ⌜ Behind (now (b .entry)) (now (b .exit)) ⌝ }
+    ensures frame { λ _. ⌜ AfterHeader (now (b .entry)) (now (b .exit)) ⌝ }
     ensures fewer { λ r. ⌜ r + runsBelow n (now (b .exit)) c ≤ runsBelow n (now (b .entry)) c ⌝ }
     ensures undoes { λ r. ⌜ UndoesFrom n c (now (b .entry)) s e r (now (b .exit)) ⌝ }
 {
@@ -126,7 +126,7 @@ pub struct Added {
 
 // An event is added.
 pub fn add(b: &mut [u8], n: u16, c: u16, e: Event) -> Added
-    ensures frame { λ _. ⌜ Behind (now (b .entry)) (now (b .exit)) ⌝ }
+    ensures frame { λ _. ⌜ AfterHeader (now (b .entry)) (now (b .exit)) ⌝ }
     ensures few { λ r. ⌜ r .undone ≤ c ⌝ }
     ensures adds { λ r. ⌜ Adds n c (now (b .entry)) e (r .node) (r .undone) (now (b .exit)) ⌝ }
 {

@@ -36,7 +36,7 @@ state-run : (at : ℕ) (s : State) (xs : List ℕ) → putState at s xs ≡ puts
 unfolding putState puts
 state-run at s xs = rw (add-zero at)
 
--- behind the parent and two free bytes
+-- after the parent and two free bytes
 abbrev configRun : Config → Run
 configRun c = (4, c .calm) ∷ (4, c .spring) ∷ (4, c .threshold) ∷ (4, c .hop) ∷ (4, c .noise) ∷ (4, c .seed) ∷ []
 

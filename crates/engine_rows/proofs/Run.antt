@@ -1,4 +1,4 @@
--- Numbers stored one behind the other, each with its width: what is read of them, and beside them.
+-- Numbers stored one after the other, each with its width: what is read of them, and beside them.
 use mathlib.Core.Path.{_≡_, refl, sym, ap, ap₂, _∙_}
 use mathlib.Core.Logic.{inl, inr}
 use mathlib.Core.List.{List, [], _∷_, _++_, append-assoc}

@@ -1,4 +1,4 @@
--- Where the rows stand in a buffer of n stations: behind the header and the calendar's part, first the stations, then the slots.
+-- Where the rows stand in a buffer of n stations: after the header and the calendar's part, first the stations, then the slots.
 use Prim.Native.Nat.{ℕ, _+_, _*_}
 
 -- the row of station s

@@ -3,7 +3,7 @@
 // Layout, little-endian, for N stations. Header: eight words of 64 bits. From byte 64 on the calendar's part, 32768 + 64 N bytes. Then a row of 128
 // bytes for each station: its numbers of the plan in the first 28 bytes, its state from byte 32 on. Then a row of 64 bytes for each slot: the event in
 // the 24 bytes that a commit writes, from byte 24 on the state from before it (its checkpoint), from byte 56 on four numbers of 16 bits: the slots of
-// its sends, its status, and one that is free. What stands behind the slots is the links' (crate rings).
+// its sends, its status, and one that is free. What stands after the slots is the links' (crate rings).
 
 ghost use mathlib.Core.Path.{_≡_};
 ghost use Prim.Native.Nat.{_+_, _*_, _≤_, _<_};

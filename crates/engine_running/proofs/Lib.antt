@@ -1,7 +1,7 @@
-pub mod Waits
+pub mod FirstUnrun
 pub mod Outcomes
 pub mod SendFits
 pub mod Running
 pub mod RunCalls
 pub mod SentNodes
-pub mod Stage
+pub mod SendsAdded

@@ -19,20 +19,20 @@ use Rattle.line.specs.Station.{Plan}
 use Rattle.rules.specs.Engine.{Engine, RunStation, RunLowest, Answer, Refused}
 use Rattle.rules.specs.Calls.{lowest}
 use Rattle.rings.specs.Table.{nextOf}
-use Rattle.engine_index.specs.Shape.{linksAt, FindsSlot}
-use Rattle.engine_events.specs.Holds.{fitsIn}
-use Rattle.engine_events.specs.Promises.{Behind, RunsEvent, Finds}
+use Rattle.engine_index.specs.Layout.{linksAt, FindsSlot}
+use Rattle.engine_events.specs.Represents.{fitsIn}
+use Rattle.engine_events.specs.Promises.{AfterHeader, RunsEvent, Finds}
 use Rattle.engine_events.proofs.Fitting.{fits-gone}
 use Rattle.engine_answers.specs.declared.RunAnswer.{RunAnswer}
 use Rattle.engine_answers.specs.declared.RunAnswer.the-variants as N
 use Rattle.engine_promises.specs.Represents.{Represents}
-use Rattle.engine_promises.specs.Said.{runSaid}
+use Rattle.engine_promises.specs.Answers.{runSaid}
 use Rattle.engine_promises.specs.Promises.{Answered}
 use Rattle.engine_promises.specs.Steps.{atMost, HasRoom}
 use Rattle.engine_running.specs.Steps.{AddsSend, RunsAt}
 use Rattle.engine_promises.proofs.Header.{fits-read}
-use Rattle.engine_promises.proofs.Verdicts.{run-9, lowest-14}
-use Rattle.engine_promises.proofs.Refusing.{refused-so, refusing}
+use Rattle.engine_promises.proofs.PostRunChecks.{run-9, lowest-14}
+use Rattle.engine_promises.proofs.Refused.{refused-so, refusing}
 use Rattle.engine_promises.proofs.FoundSlots.{no-slot}
 use Rattle.engine_running.proofs.Running.{Reads, idle-so, some-waits, over-so, full-so, run-so}
 
@@ -84,7 +84,7 @@ module _ {n c s x : ℕ} {xs : List ℕ} {v : Event} {r : Ran} (G : Reads n c s 
 
     pub run-done : length (sendsOf (f .first)) + length (sendsOf (f .second)) ≤ room → ((j : ℕ) → getD xs j 0 < 256)
         → (n1 k1 n2 k2 : ℕ) (ys zs us : List ℕ) → AddsSend n c xs (f .first) n1 k1 ys → AddsSend n c ys (f .second) n2 k2 zs
-        → RunsEvent n c zs x (f .state) n1 n2 us → Behind xs us → RunsAt n c s (N.Done s (k1 + k2)) xs us
+        → RunsEvent n c zs x (f .state) n1 n2 us → AfterHeader xs us → RunsAt n c s (N.Done s (k1 + k2)) xs us
     run-done k low n1 k1 n2 k2 ys zs us D E T F = record {
       refusal = λ m q. let z : _≡_ {A = ℕ} 0 1 = cc in absurd (omega arith);
       answer = λ p e R a b.

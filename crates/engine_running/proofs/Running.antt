@@ -25,41 +25,41 @@ use Rattle.rules.specs.Undo.{NoneLater, Does, AddEach}
 use Rattle.rules.specs.Engine.{Engine, RunStation, Refused, Ran as Said}
 use Rattle.rules.specs.Calls.{with, running, Answers, run}
 use Rattle.rules.specs.Demand.{posts, retracted, logs}
-use Rattle.rules.proofs.Functions.{runs, addAll, runLeast}
+use Rattle.rules.proofs.Undo.Functions.{runs, addAll, runLeast}
 use Rattle.rules.proofs.Members.{all-in, in-all}
-use Rattle.rules.proofs.Replay.{fresh-above, sends-later}
-use Rattle.rules.proofs.Mark.{First}
-use Rattle.rules.proofs.Marked.{first-in}
-use Rattle.rules.proofs.Sub.{runs-mark}
-use Rattle.rules.proofs.Neat.{run-in, unrun-clear}
-use Rattle.rules.proofs.Unrun.{first-least}
-use Rattle.rules.proofs.Agree.{New}
-use Rattle.rules.proofs.Count.{undone-run}
-use Rattle.rules.proofs.Invariant.{sends-new}
-use Rattle.rules.proofs.Step.{run-inside, run-good, can-run, run-queue}
-use Rattle.rules.proofs.Answered.{first-of}
+use Rattle.rules.proofs.Replay.Replay.{fresh-above, sends-later}
+use Rattle.rules.proofs.Replay.Mark.{First}
+use Rattle.rules.proofs.Undo.RunFirst.{first-in}
+use Rattle.rules.proofs.Replay.RunsLeft.{runs-mark}
+use Rattle.rules.proofs.Replay.Neat.{run-in, unrun-clear}
+use Rattle.rules.proofs.Replay.LeastUnrun.{first-least}
+use Rattle.rules.proofs.Undo.Agree.{New}
+use Rattle.rules.proofs.Undo.Count.{undone-run}
+use Rattle.rules.proofs.Calls.Invariant.{sends-new}
+use Rattle.rules.proofs.Calls.Step.{run-inside, run-good, can-run, run-queue}
+use Rattle.rules.proofs.Calls.Answered.{first-of}
 use Rattle.rings.specs.Table.{nextOf}
 use Rattle.engine_rows.specs.Layout.{stationRow, slotRow}
 use Rattle.engine_rows.specs.Records.{EventFits, StateFits, eventAt, stateAt, storedConfig}
 use Rattle.engine_rows.proofs.Fits.{event-fits, state-fits}
-use Rattle.engine_index.specs.Shape.{linksAt, slotOf, IsSlot, FindsSlot}
-use Rattle.engine_index.specs.Stands.{cell}
-use Rattle.engine_events.specs.Holds.{nonzero, Nodes, none}
-use Rattle.engine_events.specs.Promises.{Behind, RunsEvent, Becomes}
+use Rattle.engine_index.specs.Layout.{linksAt, slotOf, IsSlot, FindsSlot}
+use Rattle.engine_index.specs.Represents.{cell}
+use Rattle.engine_events.specs.Represents.{nonzero, Nodes, none}
+use Rattle.engine_events.specs.Promises.{AfterHeader, RunsEvent, Becomes}
 use Rattle.engine_rollback.proofs.Cells.{held-length}
 use Rattle.engine_promises.specs.Represents.{Represents}
 use Rattle.engine_promises.specs.Promises as P
 use Rattle.engine_promises.specs.Steps.{HasRoom}
 use Rattle.engine_running.specs.Steps.{AddsSend}
-use Rattle.engine_promises.proofs.Standing.{made, invariant, neat, waiting, mid, reached-next}
+use Rattle.engine_promises.proofs.Invariant.{made, invariant, neat, waiting, mid, reached-next}
 use Rattle.engine_promises.proofs.Header.{header-kept}
-use Rattle.engine_promises.proofs.Verdicts.{run-14, run-16, run-17, run-accepted}
+use Rattle.engine_promises.proofs.PostRunChecks.{run-14, run-16, run-17, run-accepted}
 use Rattle.engine_promises.proofs.FoundSlots.{cell-slot, slot-event}
-use Rattle.engine_running.proofs.Waits.{Waits, waiting-found}
+use Rattle.engine_running.proofs.FirstUnrun.{Waits, waiting-found}
 use Rattle.engine_running.proofs.SendFits.{sends-fit, after-fits}
 use Rattle.engine_running.proofs.Outcomes.{over-passes, within-is, outcomeOf, sends-few}
-use Rattle.engine_running.proofs.Stage.{Ready, Stage, send-more}
-use Rattle.engine_promises.proofs.Refusing.{refused-so}
+use Rattle.engine_running.proofs.SendsAdded.{Ready, Stage, send-more}
+use Rattle.engine_promises.proofs.Refused.{refused-so}
 
 -- what the call reads, where it finds a slot
 pub record Reads (n c s x : ℕ) (xs : List ℕ) (v : Event) (r : Ran) : Type 0 where
@@ -216,7 +216,7 @@ module _ {p : Plan} {e : Engine} {xs : List ℕ} (R : Represents p e xs) {s x : 
       }
 
       module _ (n1 k1 n2 k2 : ℕ) (ys zs us : List ℕ) (D : AddsSend (p .count) (e .capacity) xs (f .first) n1 k1 ys)
-          (E : AddsSend (p .count) (e .capacity) ys (f .second) n2 k2 zs) (T : RunsEvent (p .count) (e .capacity) zs x (f .state) n1 n2 us) (F : Behind xs us) where
+          (E : AddsSend (p .count) (e .capacity) ys (f .second) n2 k2 zs) (T : RunsEvent (p .count) (e .capacity) zs x (f .state) n1 n2 us) (F : AfterHeader xs us) where
         abbrev At : List ℕ → ℕ → List ℕ → List Event → List Event → Type 0
         At = Stage p (p .count) (e .capacity) (e .now) (e .queue) (addAll p (o .sends) (e .queue)) x w
 

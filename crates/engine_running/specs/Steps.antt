@@ -9,7 +9,7 @@ use Rattle.rules.specs.Engine.{Engine, RunStation, Refused}
 use Rattle.engine_rollback.specs.Promises.{Adds}
 use Rattle.engine_answers.specs.declared.RunAnswer.{RunAnswer}
 use Rattle.engine_promises.specs.Represents.{Represents}
-use Rattle.engine_promises.specs.Said.{runSaid}
+use Rattle.engine_promises.specs.Answers.{runSaid}
 use Rattle.engine_promises.specs.Promises.{Becomes}
 
 -- nothing, or an event is added

@@ -7,12 +7,12 @@ ghost use mathlib.Core.Path.{_≡_};
 ghost use Prim.Native.Nat.{_≤_};
 ghost use lib.ListN.{length};
 ghost use Rattle.rules.specs.Engine.Call.{RunStation, RunLowest};
-ghost use Rattle.engine_promises.specs.Said.{runSaid};
+ghost use Rattle.engine_promises.specs.Answers.{runSaid};
 ghost use Rattle.engine_promises.specs.Promises.{Answered};
 ghost use Rattle.engine_promises.specs.Steps.{HasRoom};
 ghost use Rattle.engine_running.specs.Steps.{AddsSend, RunsAt};
 ghost use Rattle.line.specs.Answer.{sendsOf};
-ghost use Rattle.engine_events.specs.Promises.{Behind};
+ghost use Rattle.engine_events.specs.Promises.{AfterHeader};
 use calendar::Least;
 use engine_answers::RunAnswer;
 use engine_rollback::Added;
@@ -49,7 +49,7 @@ fn free_places(b: &[u8], n: u16, c: u16) -> u16
 
 // A send is added, where there is one; its node is 0 where there is none.
 fn add_send(b: &mut [u8], n: u16, c: u16, s: Sending) -> Added
-    ensures frame { λ _. ⌜ Behind (now (b .entry)) (now (b .exit)) ⌝ }
+    ensures frame { λ _. ⌜ AfterHeader (now (b .entry)) (now (b .exit)) ⌝ }
     ensures few { λ r. ⌜ r .undone ≤ c ⌝ }
     ensures adds { λ r. ⌜ AddsSend n c (now (b .entry)) s (r .node) (r .undone) (now (b .exit)) ⌝ }
 {

@@ -15,7 +15,7 @@ use Rattle.engine_answers.specs.declared.CommitAnswer.{CommitAnswer}
 use Rattle.engine_answers.specs.declared.CommitAnswer.the-variants as C
 use Rattle.engine_answers.specs.declared.RecordAnswer.{RecordAnswer}
 use Rattle.engine_answers.specs.declared.RecordAnswer.the-variants as D
-use Rattle.exports_codes.specs.Told.{firstOr}
+use Rattle.exports_codes.specs.RefusalValues.{firstOr}
 
 -- ---- the number: 0 where it is no refusal
 

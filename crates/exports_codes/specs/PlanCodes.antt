@@ -9,7 +9,7 @@ use Rattle.plan_format.specs.declared.WriteAnswer.{WriteAnswer}
 use Rattle.plan_format.specs.declared.WriteAnswer.the-variants as W
 use Rattle.plan_format.specs.declared.NameAnswer.{NameAnswer}
 use Rattle.plan_format.specs.declared.NameAnswer.the-variants as N
-use Rattle.exports_codes.specs.Told.{firstOr}
+use Rattle.exports_codes.specs.RefusalValues.{firstOr}
 
 -- ---- the number: 0 where it is no refusal
 

@@ -2,7 +2,7 @@
 
 ghost use mathlib.Core.Path.{_≡_};
 ghost use Rattle.exports_codes.specs.EngineCodes.{openCode, postCode, retractCode, runCode, commitCode, recordCode, openValues, postValues, retractValues, runValues, commitValues, recordValues};
-use super::told::tell_station;
+use super::refusal_values::tell_station;
 use engine_answers::CommitAnswer;
 use engine_answers::OpenAnswer;
 use engine_answers::PostAnswer;

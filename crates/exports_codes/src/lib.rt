@@ -3,4 +3,4 @@
 pub mod calendar_codes;
 pub mod engine_codes;
 pub mod plan_codes;
-mod told;
+mod refusal_values;

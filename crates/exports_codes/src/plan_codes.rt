@@ -2,7 +2,7 @@
 
 ghost use mathlib.Core.Path.{_≡_};
 ghost use Rattle.exports_codes.specs.PlanCodes.{readCode, writeCode, nameCode, readValues, writeValues, nameValues};
-use super::told::tell_station;
+use super::refusal_values::tell_station;
 use plan_format::NameAnswer;
 use plan_format::ReadAnswer;
 use plan_format::WriteAnswer;

@@ -2,4 +2,4 @@ pub mod All
 pub mod Order
 pub mod Fits
 pub mod Sends
-pub mod Said
+pub mod Answers

@@ -1,4 +1,4 @@
--- What is written is read again: the plan of stations in range is accepted, and its stations are those, with zeros behind their names.
+-- What is written is read again: the plan of stations in range is accepted, and its stations are those, with zeros after their names.
 use Prim.Native.Nat.{ℕ, zero, suc, _+_, _-_, _*_, _≤_, _<_}
 use native.Mathlib.Nat.{zero-add, add-zero, suc-add, add-suc, not-suc-le-zero}
 use native.Mathlib.Omega.{arith}
@@ -46,7 +46,7 @@ module _ (s : Station) (z : Sized s) (short : s .len ≤ 16) where
   name-length : length (take (s .len) (s .name)) ≡ s .len
   name-length = length-take-le (s .len) (s .name) (omega arith)
 
-  -- the bytes behind the name are no part of it
+  -- the bytes after the name are no part of it
   name-cleared : nameOut (cleared s) ≡ nameOut s
   unfolding nameOut cleared
   name-cleared = rw (take-at (take (s .len) (s .name)) (replicate (16 - s .len) 0) (s .len) name-length)
@@ -77,9 +77,9 @@ module _ (s : Station) (z : Sized s) (short : s .len ≤ 16) where
         let n : sizeOf s - 26 ≡ s .len = omega arith in
         rw (o, l, n, numbers-read .0, numbers-read .1, take-at (take (s .len) (s .name)) rest (s .len) name-length, name-length)
 
-    -- it ends in the plan, and the rest stands behind it
-    behind : (drop (at + sizeOf s) p ≡ rest) × (at + sizeOf s ≤ length p)
-    behind =
+    -- it ends in the plan, and the rest stands after it
+    beyond : (drop (at + sizeOf s) p ≡ rest) × (at + sizeOf s ≤ length p)
+    beyond =
         let l : length p - at ≡ sizeOf s + length rest = sym (length-drop at p) ∙ ap length here ∙ simp (length-append, record-length) in
         (sym (drop-drop (sizeOf s) at p) ∙ ap (drop (sizeOf s)) here ∙ drop-at (recordBytes s) rest (sizeOf s) record-length, omega arith)
 
@@ -108,7 +108,7 @@ all-read p k at (s ∷ ss) rest f b m t d e =
     let g = f 0 (omega arith) in
     let o = load-found 4 (2 + 8 * k) (6 + 8 * k) at p _ (lit< tt) (omega arith) (omega arith) (simp append-assoc at d) in
     let l = load-found 4 (6 + 8 * k) (2 + 8 * suc k) (sizeOf s) p _ (lit< tt) (omega arith) (omega arith) (o .1) in
-    let r = behind s (g .0) (g .1) p (recordsOf ss) at e in
+    let r = beyond s (g .0) (g .1) p (recordsOf ss) at e in
     let i = all-read p (suc k) (at + sizeOf s) ss rest (λ j h. f (suc j) (omega arith)) (rw (o .0, l .0)) (r .1) (omega arith) (l .1) (r .0) in (
       record {
         right = record { placed = o .0 ∙ sym b; least = omega arith; most = omega arith; within = rw (o .0, l .0) (r .1) };

@@ -48,6 +48,6 @@ module _ (n : ℕ) (ss : List Station) (room m : ℕ) (e : writing n ss room ≡
   pub write-accepted : judging (planOf (chosen n ss)) ≡ Stations (length (chosen n ss))
   write-accepted = written-accepted (chosen n ss) writable
 
-  -- and its stations are those that were written, with zeros behind their names
+  -- and its stations are those that were written, with zeros after their names
   pub write-then-read : stationsFrom (planOf (chosen n ss)) 0 (length (chosen n ss)) ≡ map cleared (chosen n ss)
   write-then-read = written-read (chosen n ss) writable

@@ -56,7 +56,7 @@ unfolding begins
 last-within p zero h f = absurd (omega arith)
 last-within p (suc k) h f = f k (omega arith) .within
 
--- the first record begins behind the pairs
+-- the first record begins after the pairs
 pub begins-first : (p : List ℕ) (n : ℕ) → Accepted p n → begins p 0 ≡ 2 + 8 * n
 unfolding begins
 begins-first p n a = rw (a .counted)

@@ -31,7 +31,7 @@ unfolding anyOut
 any-end [] = refl
 any-end (b ∷ l) = any-end l
 
--- the first i bytes of l, with zeros behind them
+-- the first i bytes of l, with zeros after them
 abbrev pub upto : List ℕ → ℕ → List ℕ
 upto l i = take i l ++ replicate (16 - i) 0
 

@@ -19,7 +19,7 @@ use Rattle.plan_format.specs.Reading.{any}
 abbrev pub sizeOf : Station → ℕ
 sizeOf s = 26 + s .len
 
--- a record: its numbers, and the name; "the writer passes over" the bytes behind its length
+-- a record: its numbers, and the name; "the writer passes over" the bytes after its length
 unfoldable pub recordBytes : Station → List ℕ
 recordBytes s =
     bytesOf 2 (s .config .parent) ++ (bytesOf 4 (s .config .calm) ++ (bytesOf 4 (s .config .spring) ++ (bytesOf 4 (s .config .threshold)
@@ -67,13 +67,13 @@ writing n ss room =
     (cond (ltb room (length (planOf (chosen n ss)))) (Refused Output)
     (Length (length (planOf (chosen n ss)))))))
 
--- the output as the call leaves it, "what stands behind" the plan unchanged
+-- the output as the call leaves it, "what stands after" the plan unchanged
 abbrev pub left : WriteAnswer → List ℕ → List ℕ → List ℕ
 left (Length n) plan out = plan ++ drop n out
 left (Refused r) plan out = out
 
 -- ---- equal records
 
--- "two records are equal when their numbers and names are": the record with zeros behind its name
+-- "two records are equal when their numbers and names are": the record with zeros after its name
 unfoldable pub cleared : Station → Station
 cleared s = record { config = s .config; name = take (s .len) (s .name) ++ replicate (16 - s .len) 0; len = s .len }

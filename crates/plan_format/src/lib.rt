@@ -85,7 +85,7 @@ pub fn shape_wrong(plan: &[u8]) -> bool
     plan.len() < 2 + 8 * (stations as usize)
 }
 
-// Where the record of a station has to begin: behind the pairs, or behind the record before it.
+// Where the record of a station has to begin: after the pairs, or after the record before it.
 pub fn begin_of(plan: &[u8], station: u16) -> usize
     ensures { λ r. ⌜ r ≡ begins (now (plan .entry)) station ⌝ }
 {

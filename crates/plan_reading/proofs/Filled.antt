@@ -10,7 +10,7 @@ use Rattle.plan_format.specs.declared.Station.{Station}
 use Rattle.plan_format.specs.Plan.{stationAt, stationsFrom}
 use Rattle.plan_format.specs.Writing.{noStation}
 
--- the plan's first n stations, and what stood behind them
+-- the plan's first n stations, and what stood after them
 unfoldable pub filled : List ℕ → ℕ → List Station → List Station
 filled p n ys = stationsFrom p 0 n ++ drop n ys
 

@@ -13,7 +13,7 @@ use plan_format::Station;
 use refusal::Refusal;
 use words::load16;
 
-// The bytes of a name, with zeros behind them.
+// The bytes of a name, with zeros after them.
 fn name_at(plan: &[u8], at: usize, len: usize) -> [u8; 16]
     requires { ⌜ (at + len ≤ length (now plan)) × (len ≤ 16) ⌝ }
     ensures { λ r. ⌜ r ≡ padded (take len (drop at (now (plan .entry)))) ⌝ }

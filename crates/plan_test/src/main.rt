@@ -6,7 +6,7 @@ use refusal::Refusal;
 
 // ---- a plan is laid out
 
-// The byte i behind a place.
+// The byte i after a place.
 fn byte(out: &mut [u8], at: usize, i: usize, v: u8) {
     if at < out.len() {
         if i < out.len() - at {
@@ -15,7 +15,7 @@ fn byte(out: &mut [u8], at: usize, i: usize, v: u8) {
     }
 }
 
-// The number of 2 or 4 bytes that stands i bytes behind a place.
+// The number of 2 or 4 bytes that stands i bytes after a place.
 fn two(out: &mut [u8], at: usize, i: u8, v: u16) {
     let i = i as usize;
     byte(&mut *out, at, i, (v % 256) as u8);
@@ -131,7 +131,7 @@ fn numbered(i: u8, v: u32) {
     say(&b, 70);
 }
 
-// The first len bytes of a right plan of two stations, with a byte behind it.
+// The first len bytes of a right plan of two stations, with a byte after it.
 fn cut(len: usize) {
     let mut b = [0u8; 71];
     lay(&mut b, 2, 0);

@@ -27,7 +27,7 @@ lower low k bad = cond (ltb low k) low (cond bad k (suc k))
 abbrev pub counted : ℕ → ℕ
 counted len = cond (ltb 16 len) 16 len
 
--- the pen behind one station more
+-- the pen after one station more
 unfoldable pub moved : Station → Pen → Pen
 moved s p = record {
   n = p .n;

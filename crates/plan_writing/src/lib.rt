@@ -270,7 +270,7 @@ fn each(list: &[Station], out: &mut [u8], w: Pen) -> Pen
     p
 }
 
-// Writes the plan of the first n stations into the lent bytes, and answers its length. The bytes behind the plan stay, and a refusal changes
+// Writes the plan of the first n stations into the lent bytes, and answers its length. The bytes after the plan stay, and a refusal changes
 // nothing.
 pub fn write(stations: &[Station], n: u64, out: &mut [u8]) -> WriteAnswer
     ensures { λ r. ⌜ (r ≡ writing n (now (stations .entry)) (length (now (out .entry)))) × (now (out .exit) ≡ left r (planOf (chosen n (now (stations .entry)))) (now (out .entry))) ⌝ }

@@ -65,7 +65,7 @@ module _ {nx pv nx′ pv′ : ℕ → ℕ} {n : ℕ} (nexts : (u : ℕ) → u < 
 
 -- ---- the ring that is changed
 
--- the parts before and behind the place stay as they were, and the part behind it may have a new node q before it
+-- the parts before and after the place stay as they were, and the part after it may have a new node q before it
 module _ {nx pv nx′ pv′ : ℕ → ℕ} (s : ℕ) (ys : List ℕ) (x : ℕ) where
   seam : (zs : List ℕ) → Only nx pv nx′ pv′ (lastOf s ys) (headOf zs s) x → ((i : ℕ) → occurs i (s ∷ ys ++ zs) ≤ 1) → occurs x (s ∷ ys ++ zs) ≡ 0
       → (p q : ℕ) → nx′ q ≡ headOf zs s → pv′ (headOf zs s) ≡ q

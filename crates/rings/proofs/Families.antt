@@ -60,7 +60,7 @@ module _ {t : List ℕ} {o n m : ℕ} {R : ℕ → List ℕ} (F : Rings t o n m 
   changed : (i : ℕ) → inRings m R i + occurs i (s ∷ R′ s) ≡ inRings m R′ i + occurs i (s ∷ R s)
   changed i = sum-change m (λ s. occurs i (s ∷ R s)) (λ s. occurs i (s ∷ R′ s)) s hs (λ u h d. rw (others u h d))
 
-  -- x comes in behind the last of ys
+  -- x comes in after the last of ys
   module _ (e : R s ≡ ys ++ zs) (e′ : R′ s ≡ ys ++ x ∷ zs) where
     pub rings-more : (i : ℕ) → inRings m R′ i ≡ inRings m R i + hit i x
     rings-more i = omega (arith, changed i, ap (occurs i) e, ap (occurs i) e′, occurs-append i ys zs, occurs-append i ys (x ∷ zs))

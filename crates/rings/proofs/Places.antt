@@ -1,4 +1,4 @@
--- A place in a ring lies between two nodes of it: the last of the nodes before it and the first of those behind it, where the sentinel ends both.
+-- A place in a ring lies between two nodes of it: the last of the nodes before it and the first of those after it, where the sentinel ends both.
 use mathlib.Core.Path.{_≡_}
 use mathlib.Core.List.{List, [], _∷_, _++_, append-assoc, append-nil}
 use Prim.Native.Nat.{ℕ, _<_, _≤_}
@@ -17,7 +17,7 @@ module _ {nx pv : ℕ → ℕ} {n s : ℕ} where
   pub ring-length : {xs : List ℕ} → Ring nx pv n s xs → length xs < n
   ring-length {xs} R = omega (arith, at-most n (s ∷ xs) (R .within) (R .once))
 
-  -- the place behind ys
+  -- the place after ys
   module _ (ys zs : List ℕ) (R : Ring nx pv n s (ys ++ zs)) where
     pub parted : Run nx pv s ys × Run nx pv (lastOf s ys) (zs ++ s ∷ [])
     parted = run-split nx pv s ys (zs ++ s ∷ []) (rw append-assoc at (R .run))
@@ -34,7 +34,7 @@ module _ {nx pv : ℕ → ℕ} {n s : ℕ} where
     pub head-in : 1 ≤ occurs (headOf zs s) (s ∷ ys ++ zs)
     head-in = omega (arith, occurs-head zs s, occurs-append (headOf zs s) ys zs)
 
-  -- behind a node x
+  -- after a node x
   pub next-of : (ys : List ℕ) (x : ℕ) (zs : List ℕ) → Ring nx pv n s (ys ++ x ∷ zs) → nx x ≡ headOf zs s
   next-of ys x zs R = run-first nx pv x zs s (parted ys (x ∷ zs) R .1 .2) .0
 

@@ -1,4 +1,4 @@
--- The operations on one ring in a table of bytes: x comes behind the last of ys, x goes, s is alone; and a ring with none of the nodes is left.
+-- The operations on one ring in a table of bytes: x comes after the last of ys, x goes, s is alone; and a ring with none of the nodes is left.
 use mathlib.Core.Path.{_≡_}
 use mathlib.Core.List.{List, [], _∷_, _++_}
 use Prim.Native.Nat.{ℕ, _+_, _<_, _≤_}
@@ -11,7 +11,7 @@ use Rattle.rings.proofs.Links.{Linked, Bridged, insert-links, unlink-li
 use Rattle.rings.proofs.Changes.{ring-apart, inserted, removed}
 
 module _ {t : List ℕ} {o n : ℕ} (T : Room t o n) {s : ℕ} (ys zs : List ℕ) (x : ℕ) where
-  -- ---- x comes in behind the last of ys
+  -- ---- x comes in after the last of ys
   module _ (R : RingIn t o n s (ys ++ zs)) (out : occurs x (s ∷ ys ++ zs) ≡ 0) (hx : x < n) where
     linked : Linked (nextOf t o) (prevOf t o) (nextOf (linkAfter t o n (lastOf s ys) x) o) (prevOf (linkAfter t o n (lastOf s ys) x) o)
         (lastOf s ys) (headOf zs s) x
@@ -38,7 +38,7 @@ module _ {t : List ℕ} {o n : ℕ} (T : Room t o n) {s : ℕ} (ys zs : List ℕ
 
   -- ---- x goes
   module _ (R : RingIn t o n s (ys ++ x ∷ zs)) where
-    -- the node behind x
+    -- the node after x
     head-stays : 1 ≤ occurs (headOf zs s) (s ∷ ys ++ x ∷ zs)
     head-stays = omega (arith, occurs-head zs s, occurs-append (headOf zs s) ys (x ∷ zs))
 

@@ -1,4 +1,4 @@
--- On a ring a walk forward or back, past nodes at which it does not stop, ends at the node behind them, and fuel for n steps is enough.
+-- On a ring a walk forward or back, past nodes at which it does not stop, ends at the node after them, and fuel for n steps is enough.
 use mathlib.Core.Path.{_≡_, _∙_}
 use mathlib.Core.Bool.{Bool, true, false}
 use mathlib.Core.List.{List, [], _∷_, _++_, append-nil, reverse, reverse-cons, reverse-append}

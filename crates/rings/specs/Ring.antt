@@ -1,4 +1,4 @@
--- Rings, over any reading nx, pv of the links: nx i is the node behind node i, pv i the node before it. Families of rings in one table.
+-- Rings, over any reading nx, pv of the links: nx i is the node after node i, pv i the node before it. Families of rings in one table.
 use mathlib.Core.Path.{_≡_}
 use mathlib.Core.Bool.{cond}
 use mathlib.Core.List.{List, [], _∷_, _++_}

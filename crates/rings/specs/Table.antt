@@ -27,7 +27,7 @@ withPrev t o n i v = cond (ltb i n) (storeAt 2 (o + 4 * i + 2) v t) t
 unfoldable pub emptyAt : List ℕ → ℕ → ℕ → ℕ → List ℕ
 emptyAt t o n s = withPrev (withNext t o n s s) o n s s
 
--- node x put behind node a
+-- node x put after node a
 unfoldable pub linkAfter : List ℕ → ℕ → ℕ → ℕ → ℕ → List ℕ
 linkAfter t o n a x = withPrev (withNext (withPrev (withNext t o n x (nextOf t o a)) o n x a) o n a x) o n (nextOf t o a) x
 

@@ -6,7 +6,7 @@
 ghost use mathlib.Core.Path.{_≡_};
 ghost use Rattle.rings.specs.Table.{nextOf, prevOf, withNext, withPrev, emptyAt, linkAfter, unlinked};
 
-// The node behind node i.
+// The node after node i.
 pub fn next(b: &[u8], o: u32, i: u16) -> u16
     ensures { λ r. ⌜ r ≡ nextOf (now (b .entry)) o i ⌝ }
 {
@@ -44,7 +44,7 @@ pub fn make_empty(b: &mut [u8], o: u32, n: u16, s: u16)
     set_prev(b, o, n, s, s);
 }
 
-// Node x goes behind node a.
+// Node x goes after node a.
 pub fn insert_after(b: &mut [u8], o: u32, n: u16, a: u16, x: u16)
     ensures { λ _. ⌜ now (b .exit) ≡ linkAfter (now (b .entry)) o n a x ⌝ }
 {

@@ -14,8 +14,8 @@ use Rattle.rules.specs.Engine.{opened, Call, Post, RunLowest, Commit, Answer, P
 use Rattle.rules.specs.Checks.{checks}
 use Rattle.rules.specs.Entry.{entry, entries}
 use Rattle.rules.specs.Calls.{postOf, with}
-use Rattle.rules.proofs.Functions.{runs, behind, orThis, latest, removeEach, undoFound, undoWithin, undoFrom, remove, add, addAll, runLeast}
-use Rattle.rules.proofs.Compute.{settle, postStep, retractStep, runStep, stationStep, lowestOf, commitStep, answerTo, answersTo}
+use Rattle.rules.proofs.Undo.Functions.{runs, beyond, orThis, latest, removeEach, undoFound, undoWithin, undoFrom, remove, add, addAll, runLeast}
+use Rattle.rules.proofs.Calls.Compute.{settle, postStep, retractStep, runStep, stationStep, lowestOf, commitStep, answerTo, answersTo}
 use Rattle.rules_worked.proofs.Check.{nth, allIn, in-range, at, zeros, pairs, Gives, computed}
 
 -- "two unnamed stations; periods 1000 and 200, threshold 5000, delay 30, noise 0, seed 1, parents 0"
@@ -37,7 +37,7 @@ answers =
 pub bench : Gives plan 64 calls answers
 unfolding plan station calls answers allIn parentOut numberOut nth pairs zeros
     settle postStep retractStep runStep stationStep lowestOf commitStep answerTo answersTo
-    runs behind orThis latest removeEach undoFound undoWithin undoFrom remove add addAll runLeast
+    runs beyond orThis latest removeEach undoFound undoWithin undoFrom remove add addAll runLeast
     postOf with entry entries bytesOf checks orNext judged opened matterOf
     same delete place leastUnrun mark isRun undone heldPost noneUnrun unrunBefore logged kept recordOf
     decide lex before update initial send silent period runRead drawnState lose hear pass runFrame runLevel runMatter runAt runEvent nextDraw

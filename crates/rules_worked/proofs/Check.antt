@@ -13,8 +13,8 @@ use Rattle.line.specs.declared.Matter.{Matter}
 use Rattle.line.specs.Station.{Plan, InRange, numberOut}
 use Rattle.rules.specs.Engine.{Engine, opened, Call, Answer}
 use Rattle.rules.specs.Demand.{Made, Calls}
-use Rattle.rules.proofs.Compute.{answersTo, leftBy}
-use Rattle.rules.proofs.Answered.{opened-answers}
+use Rattle.rules.proofs.Calls.Compute.{answersTo, leftBy}
+use Rattle.rules.proofs.Calls.Answered.{opened-answers}
 
 -- ---- plans
 

@@ -45,7 +45,7 @@ bytes-le (suc n) i xs b h =
     rw (digits-div (leAt n (suc i) xs) (b i), digits-mod (leAt n (suc i) xs) (b i), drop-cons xs i 0 (omega arith), add-suc, ← suc-add)
     (ap (λ (l : List ℕ). getD xs i 0 ∷ l) (bytes-le n (suc i) xs b (omega arith)))
 
--- the bytes of the number that was loaded from i, and then what stands behind it at j
+-- the bytes of the number that was loaded from i, and then what stands after it at j
 pub bytes-load : (n i j : ℕ) (xs : List ℕ) → ((j : ℕ) → getD xs j 0 < 256) → i + n ≡ j → j ≤ length xs → bytesOf n (loadAt n i xs) ++ drop j xs ≡ drop i xs
 bytes-load n i j xs b e h =
     let l : i + n ≤ length xs = omega arith in

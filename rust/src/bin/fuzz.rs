@@ -153,7 +153,7 @@ fn damage(seed: u64) -> u64 {
     match dice.below(4) {
         0 => all[32..size + 32].iter_mut().for_each(|b| *b = dice.below(256) as u8),
         1 => {
-            // garbage behind a sound header
+            // garbage after a sound header
             let from = 32 + 64 + dice.below(size as u64 - 64) as usize;
             all[from..size + 32].iter_mut().for_each(|b| *b = dice.below(256) as u8);
         }
@@ -271,7 +271,7 @@ fn plans(seed: u64) -> u64 {
     let written = wrong(Plan::write(&records, &mut output).map(|plan| plan.bytes().to_vec()));
     assert_eq!(written, expected, "case {seed}: a plan is written otherwise");
     let end = expected.as_ref().map_or(0, |bytes| bytes.len());
-    assert!(output[end..] == before[end..], "case {seed}: bytes behind the plan");
+    assert!(output[end..] == before[end..], "case {seed}: bytes after the plan");
 
     let mut bytes = reference::write_plan(&drawn, whole).unwrap_or_else(|_| reference::plan_bytes(&line(&mut dice)));
     match dice.below(5) {

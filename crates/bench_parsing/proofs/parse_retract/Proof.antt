@@ -1,4 +1,4 @@
--- The line is the word retract with one number behind it, or it is refused.
+-- The line is the word retract with one number after it, or it is refused.
 use borrow.Author.Needs.{needs}
 use Rattle.bench_parsing.proofs.Accepting.{refuses-retract, takes-retract}
 use Rattle.bench_parsing.proofs.Cases.{absent}

@@ -1,19 +1,19 @@
--- The parts of the line, one behind the other.
+-- The parts of the line, one after the other.
 use borrow.Author.Needs.{needs}
-use Rattle.bench_command.specs.Lines.{behind}
+use Rattle.bench_command.specs.Lines.{spaced}
 use Rattle.bench_printing.proofs.Appending.{then, fills}
 use Rattle.bench_printing.proofs.print_two.Statement.{statement}
 use Rattle.bench_printing.proofs.print_two.Tie as tie
 
 returns : tie.Need-returns
-unfolding behind
+unfolding spaced
 returns c =
     let at-append-byte = c .before .before in
-    let at-append-behind2 = at-append-byte .before .before .before .before in
-    let at-append-behind = at-append-behind2 .before .before .before .before in
-    let at-append-word = at-append-behind .before .before .before .before in
-    let first = then (at-append-word .append-word .ensures) (at-append-behind .append-behind .ensures) in
-    fills _ _ _ _ (then (then first (at-append-behind2 .append-behind2 .ensures)) (at-append-byte .append-byte .ensures))
+    let at-append-after2 = at-append-byte .before .before .before .before in
+    let at-append-after = at-append-after2 .before .before .before .before in
+    let at-append-word = at-append-after .before .before .before .before in
+    let first = then (at-append-word .append-word .ensures) (at-append-after .append-after .ensures) in
+    fills _ _ _ _ (then (then first (at-append-after2 .append-after2 .ensures)) (at-append-byte .append-byte .ensures))
 
 pub print-two-spec : {M : Type 1} → statement M
 print-two-spec =

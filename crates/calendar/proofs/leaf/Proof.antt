@@ -1,4 +1,4 @@
--- The leaf is computed from the start of the floor's block; behind the ring it is 4096.
+-- The leaf is computed from the start of the floor's block; after the ring it is 4096.
 use mathlib.Core.Path.{sym}
 use Prim.Native.Nat.{_-_}
 use native.Mathlib.Omega.{arith}

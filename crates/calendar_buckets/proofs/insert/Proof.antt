@@ -1,4 +1,4 @@
--- The station is joined in behind the place that was found, and the bits above its bucket are raised.
+-- The station is joined in after the place that was found, and the bits above its bucket are raised.
 use mathlib.Core.Path.{subst}
 use Prim.Native.Nat.{ℕ}
 use native.Mathlib.Numerals.{add-one}

@@ -6,7 +6,7 @@ use denote.Ref.{now}
 use lib.ListN.{length}
 use Rattle.engine_events.proofs.Fitting.{fits-true}
 use Rattle.engine_committing.proofs.Recording.{other-station, none-run, first-run}
-use Rattle.engine_promises.proofs.Unfit.{unfit-call}
+use Rattle.engine_promises.proofs.ShortBuffer.{unfit-call}
 use Rattle.engine_committing.proofs.record.Statement.{statement}
 use Rattle.engine_committing.proofs.record.Tie as tie
 

@@ -1,6 +1,6 @@
 -- The lowest station's time decides.
 use borrow.Author.Needs.{needs}
-use Rattle.engine_committing.proofs.Waiting.{none-earlier, some-earlier}
+use Rattle.engine_committing.proofs.UnrunBefore.{none-earlier, some-earlier}
 use Rattle.engine_committing.proofs.unrun_before.Statement.{statement}
 use Rattle.engine_committing.proofs.unrun_before.Tie as tie
 

@@ -5,15 +5,15 @@ use native.Mathlib.Omega.{arith}
 use borrow.Author.Needs.{needs}
 use lib.ListN.{length}
 use Rattle.engine_rows.proofs.RecordLaws.{length-event}
-use Rattle.engine_events.specs.Promises.{Behind}
-use Rattle.engine_moves.proofs.Behinds.{behind-same, behind-on}
+use Rattle.engine_events.specs.Promises.{AfterHeader}
+use Rattle.engine_events.proofs.AfterHeader.{after-header-same, after-header-on}
 use Rattle.engine_promises.proofs.FoundSlots.{no-slot, slot-event}
 use Rattle.engine_committing.proofs.Writing.{Writing, writing-start, writing-on, writing-stops, writing-ends}
 use Rattle.engine_committing.proofs.write_first.Statement.{statement}
 use Rattle.engine_committing.proofs.write_first.Tie as tie
 
 abbrev Inv-loop : tie.InvT-loop
-Inv-loop b₀ n c count out₀ k₀ b out k = (k ≤ count) × (length out ≡ length out₀) × Behind b₀ b × Writing n c b₀ count out₀ k b out
+Inv-loop b₀ n c count out₀ k₀ b out k = (k ≤ count) × (length out ≡ length out₀) × AfterHeader b₀ b × Writing n c b₀ count out₀ k b out
 
 abbrev μ-loop : tie.MeasureT-loop
 μ-loop b₀ n c count out₀ k₀ b out k = count - k
@@ -21,7 +21,7 @@ abbrev μ-loop : tie.MeasureT-loop
 loop-holds : tie.Need-loop-holds Inv-loop μ-loop
 loop-holds c =
     let args = c .before .before .args in
-    (omega arith, refl, behind-same (args .b .now), writing-start (args .n) (args .c) (args .b .now) (args .count) (args .out .now))
+    (omega arith, refl, after-header-same (args .b .now), writing-start (args .n) (args .c) (args .b .now) (args .count) (args .out .now))
 
 returns : tie.Need-returns Inv-loop μ-loop
 returns c =
@@ -58,7 +58,7 @@ loop-again c =
     let gone = c .before .before .release .ensures in (
       omega (arith, more),
       ap length put ∙ length-event _ _ _ ∙ inv .1,
-      behind-on (inv .2) (gone .0),
+      after-header-on (inv .2) (gone .0),
       writing-on (args .n) (args .c) (args .b .now) (args .count) (args .out .now) (inv .3) more
           (i .before .before .before .next-logged .ensures)
           (slot-event (i .before .slot-in .ensures) _ (i .if1 .left) (w .before .before .event .ensures))

@@ -2,7 +2,7 @@
 use mathlib.Core.Path.{refl}
 use native.Mathlib.Omega.{arith}
 use Rattle.engine_events.proofs.Fitting.{fits-true}
-use Rattle.engine_events.proofs.Asks.{finds, nothing-fits, nothing-station, finds-none}
+use Rattle.engine_events.proofs.LeastStation.{finds, nothing-fits, nothing-station, finds-none}
 use borrow.Author.Needs.{needs}
 use Rattle.engine_events.proofs.lowest.Statement.{statement}
 use Rattle.engine_events.proofs.lowest.Tie as tie

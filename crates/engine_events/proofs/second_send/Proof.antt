@@ -1,7 +1,7 @@
 -- The call's slot is the node's.
 use mathlib.Core.Path.{refl}
 use native.Mathlib.Omega.{arith}
-use Rattle.engine_events.proofs.Numbers.{number-at}
+use Rattle.engine_events.proofs.SendNumbers.{number-at}
 use borrow.Author.Needs.{needs}
 use Rattle.engine_events.proofs.second_send.Statement.{statement}
 use Rattle.engine_events.proofs.second_send.Tie as tie

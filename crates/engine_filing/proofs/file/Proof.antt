@@ -1,6 +1,6 @@
--- A node goes to its event's place: behind the node at which the walk ends.
+-- A node goes to its event's place: after the node at which the walk ends.
 use borrow.Author.Needs.{needs}
-use Rattle.engine_index.proofs.Made.{filed-made}
+use Rattle.engine_index.proofs.Changes.FromCalls.{filed-made}
 use Rattle.engine_filing.proofs.file.Statement.{statement}
 use Rattle.engine_filing.proofs.file.Tie as tie
 

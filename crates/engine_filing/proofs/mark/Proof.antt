@@ -2,8 +2,8 @@
 use native.Mathlib.Omega.{arith}
 use Prim.Native.Nat.{_≤_}
 use borrow.Author.Needs.{needs}
-use Rattle.engine_index.proofs.Made.{mark-made, filed-last}
-use Rattle.engine_index.proofs.Refusals.{found-range, refused-slot, refused-target, mark-none}
+use Rattle.engine_index.proofs.Changes.FromCalls.{mark-made, filed-last}
+use Rattle.engine_index.proofs.Places.Refusals.{found-range, refused-slot, refused-target, mark-none}
 use Rattle.engine_filing.proofs.mark.Statement.{statement}
 use Rattle.engine_filing.proofs.mark.Tie as tie
 
@@ -25,7 +25,7 @@ out c = c .before .before .before .before .before .before .before .before .befor
 range : (c : tie.Then1) → (start c .args .n ≤ 256) × (start c .args .c ≤ 4096)
 range c = found-range _ _ (start c .args .b .now) (start c .args .x) (c .before .slot-in .ensures) (c .if1 .taken)
 
--- ---- the event is filed in the log behind the last one, or by a walk
+-- ---- the event is filed in the log after the last one, or by a walk
 
 returns : tie.Need-returns
 returns c =

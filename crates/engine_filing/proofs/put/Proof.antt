@@ -2,8 +2,8 @@
 use native.Mathlib.Omega.{arith}
 use Prim.Native.Nat.{_≤_}
 use borrow.Author.Needs.{needs}
-use Rattle.engine_index.proofs.Made.{put-made, filed-last}
-use Rattle.engine_index.proofs.Refusals.{range-true, put-range, put-none}
+use Rattle.engine_index.proofs.Changes.FromCalls.{put-made, filed-last}
+use Rattle.engine_index.proofs.Places.Refusals.{range-true, put-range, put-none}
 use Rattle.engine_filing.proofs.put.Statement.{statement}
 use Rattle.engine_filing.proofs.put.Tie as tie
 

@@ -1,6 +1,6 @@
 -- The walk stops at the sentinel, and where the event comes before.
 use borrow.Author.Needs.{needs}
-use Rattle.engine_index.proofs.Made.{stops-at, stops-by}
+use Rattle.engine_index.proofs.Changes.FromCalls.{stops-at, stops-by}
 use Rattle.engine_filing.proofs.stops.Statement.{statement}
 use Rattle.engine_filing.proofs.stops.Tie as tie
 

@@ -1,8 +1,8 @@
 -- Rings are emptied, the slots go into the free ring, and the log is emptied.
 use Prim.Native.Nat.{_≤_}
 use borrow.Author.Needs.{needs}
-use Rattle.engine_freeing.proofs.OpenLaws.{clear-made, clear-none}
-use Rattle.engine_index.proofs.Refusals.{range-true}
+use Rattle.engine_freeing.proofs.Clearing.{clear-made, clear-none}
+use Rattle.engine_index.proofs.Places.Refusals.{range-true}
 use Rattle.engine_freeing.proofs.clear.Statement.{statement}
 use Rattle.engine_freeing.proofs.clear.Tie as tie
 

@@ -1,6 +1,6 @@
 -- An unrun event leaves; where the code does nothing, the node is no event's.
 use borrow.Author.Needs.{needs}
-use Rattle.engine_index.proofs.Made.{drop-made}
+use Rattle.engine_index.proofs.Changes.FromCalls.{drop-made}
 use Rattle.engine_freeing.proofs.drop.Statement.{statement}
 use Rattle.engine_freeing.proofs.drop.Tie as tie
 

@@ -4,8 +4,8 @@ use mathlib.Core.Logic.{inr}
 use native.Mathlib.Omega.{arith}
 use Prim.Native.Nat.{_≤_}
 use borrow.Author.Needs.{needs}
-use Rattle.engine_index.proofs.Made.{free-made}
-use Rattle.engine_index.proofs.Refusals.{found-range, refused-slot}
+use Rattle.engine_index.proofs.Changes.FromCalls.{free-made}
+use Rattle.engine_index.proofs.Places.Refusals.{found-range, refused-slot}
 use Rattle.engine_freeing.proofs.free.Statement.{statement}
 use Rattle.engine_freeing.proofs.free.Tie as tie
 

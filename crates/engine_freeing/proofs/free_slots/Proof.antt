@@ -7,7 +7,7 @@ use denote.Ref.{now}
 use lib.ListN.{length}
 use lib.Dec.{lit<}
 use Rattle.engine_index.specs.Opening.{filled}
-use Rattle.engine_freeing.proofs.OpenLaws.{filled-none, filled-on, at-end}
+use Rattle.engine_freeing.proofs.Clearing.{filled-none, filled-on, at-end}
 use Rattle.engine_freeing.proofs.free_slots.Statement.{statement}
 use Rattle.engine_freeing.proofs.free_slots.Tie as tie
 

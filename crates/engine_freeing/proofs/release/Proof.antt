@@ -1,7 +1,7 @@
 -- A run event leaves; where the code does nothing, the node is no event's.
 use borrow.Author.Needs.{needs}
-use Rattle.engine_index.proofs.Made.{release-made}
-use Rattle.engine_index.proofs.Refusals.{found-range, refused-slot, release-none}
+use Rattle.engine_index.proofs.Changes.FromCalls.{release-made}
+use Rattle.engine_index.proofs.Places.Refusals.{found-range, refused-slot, release-none}
 use Rattle.engine_freeing.proofs.release.Statement.{statement}
 use Rattle.engine_freeing.proofs.release.Tie as tie
 

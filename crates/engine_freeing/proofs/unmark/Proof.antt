@@ -1,8 +1,8 @@
 -- An event is unrun again; where the code does nothing, the node is no event's.
 use native.Mathlib.Omega.{arith}
 use borrow.Author.Needs.{needs}
-use Rattle.engine_index.proofs.Made.{unmark-made}
-use Rattle.engine_index.proofs.Refusals.{found-range, refused-slot, refused-target, unmark-none}
+use Rattle.engine_index.proofs.Changes.FromCalls.{unmark-made}
+use Rattle.engine_index.proofs.Places.Refusals.{found-range, refused-slot, refused-target, unmark-none}
 use Rattle.engine_freeing.proofs.unmark.Statement.{statement}
 use Rattle.engine_freeing.proofs.unmark.Tie as tie
 

@@ -1,6 +1,6 @@
--- The node behind a node: the rings' answer, at the links.
+-- The node after a node: the rings' answer, at the links.
 use borrow.Author.Needs.{needs}
-use Rattle.engine_index.proofs.Made.{looked-up}
+use Rattle.engine_index.proofs.Changes.FromCalls.{looked-up}
 use Rattle.engine_index.proofs.next.Statement.{statement}
 use Rattle.engine_index.proofs.next.Tie as tie
 

@@ -1,7 +1,7 @@
--- The node behind a node in the log: the rings' answer, at the log.
+-- The node after a node in the log: the rings' answer, at the log.
 use borrow.Author.Needs.{needs}
-use Rattle.engine_index.proofs.Made.{looked-log}
-use Rattle.engine_index.proofs.Refusals.{range-gone}
+use Rattle.engine_index.proofs.Changes.FromCalls.{looked-log}
+use Rattle.engine_index.proofs.Places.Refusals.{range-gone}
 use Rattle.engine_index.proofs.next_logged.Statement.{statement}
 use Rattle.engine_index.proofs.next_logged.Tie as tie
 

@@ -2,7 +2,7 @@
 use native.Mathlib.Omega.{arith}
 use Prim.Native.Nat.{_≤_}
 use borrow.Author.Needs.{needs}
-use Rattle.engine_index.proofs.Refusals.{range-true, range-gone}
+use Rattle.engine_index.proofs.Places.Refusals.{range-true, range-gone}
 use Rattle.engine_index.proofs.nodes.Statement.{statement}
 use Rattle.engine_index.proofs.nodes.Tie as tie
 

@@ -1,6 +1,6 @@
 -- The node before a node: the rings' answer, at the links.
 use borrow.Author.Needs.{needs}
-use Rattle.engine_index.proofs.Made.{looked-back}
+use Rattle.engine_index.proofs.Changes.FromCalls.{looked-back}
 use Rattle.engine_index.proofs.prev.Statement.{statement}
 use Rattle.engine_index.proofs.prev.Tie as tie
 

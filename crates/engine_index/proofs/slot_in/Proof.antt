@@ -1,8 +1,8 @@
 -- The tests are those of a slot's node.
 use Prim.Native.Nat.{_≤_}
 use borrow.Author.Needs.{needs}
-use Rattle.engine_index.proofs.Found.{found, sentinel, short, out-of-range}
-use Rattle.engine_index.proofs.Refusals.{range-true}
+use Rattle.engine_index.proofs.Places.FoundSlot.{found, sentinel, short, out-of-range}
+use Rattle.engine_index.proofs.Places.Refusals.{range-true}
 use Rattle.engine_index.proofs.slot_in.Statement.{statement}
 use Rattle.engine_index.proofs.slot_in.Tie as tie
 

@@ -2,7 +2,7 @@
 use mathlib.Core.Path.{refl}
 use native.Mathlib.Omega.{arith}
 use Rattle.engine_events.proofs.Fitting.{fits-true}
-use Rattle.engine_moves.proofs.Cleared.{cleared, clears-fits, clears-station}
+use Rattle.engine_moves.proofs.Changes.Cleared.{cleared, clears-fits, clears-station}
 use borrow.Author.Needs.{needs}
 use Rattle.engine_moves.proofs.clear.Statement.{statement}
 use Rattle.engine_moves.proofs.clear.Tie as tie

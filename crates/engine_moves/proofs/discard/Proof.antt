@@ -1,7 +1,7 @@
 -- An unrun event leaves; where the code does nothing, the node is no event's.
-use Rattle.engine_moves.proofs.Promises.{tell-room}
-use Rattle.engine_moves.proofs.Nowhere.{nowhere-fits, nowhere-slot, nowhere-target}
-use Rattle.engine_moves.proofs.LeaveMade.{discard-made, discard-none}
+use Rattle.engine_moves.proofs.FromCalls.CallsOfChanges.{tell-room}
+use Rattle.engine_moves.proofs.FromCalls.NoneHeld.{nowhere-fits, nowhere-slot, nowhere-target}
+use Rattle.engine_moves.proofs.FromCalls.Leave.{discard-made, discard-none}
 use borrow.Author.Needs.{needs}
 use Rattle.engine_moves.proofs.discard.Statement.{statement}
 use Rattle.engine_moves.proofs.discard.Tie as tie

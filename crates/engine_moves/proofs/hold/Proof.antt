@@ -1,6 +1,6 @@
 -- An event is held; where the code does nothing, the bytes hold no queue or the event is at no station.
-use Rattle.engine_moves.proofs.Promises.{tell-room}
-use Rattle.engine_moves.proofs.HoldMade.{hold-made, hold-unfit, hold-outside}
+use Rattle.engine_moves.proofs.FromCalls.CallsOfChanges.{tell-room}
+use Rattle.engine_moves.proofs.FromCalls.Hold.{hold-made, hold-unfit, hold-outside}
 use borrow.Author.Needs.{needs}
 use Rattle.engine_moves.proofs.hold.Statement.{statement}
 use Rattle.engine_moves.proofs.hold.Tie as tie

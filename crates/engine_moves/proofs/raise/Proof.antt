@@ -2,7 +2,7 @@
 use mathlib.Core.Path.{refl}
 use native.Mathlib.Omega.{arith}
 use Rattle.engine_events.proofs.Fitting.{fits-true}
-use Rattle.engine_events.proofs.Asks.{raised, nothing-fits, nothing-station, raises-none}
+use Rattle.engine_events.proofs.LeastStation.{raised, nothing-fits, nothing-station, raises-none}
 use borrow.Author.Needs.{needs}
 use Rattle.engine_moves.proofs.raise.Statement.{statement}
 use Rattle.engine_moves.proofs.raise.Tie as tie

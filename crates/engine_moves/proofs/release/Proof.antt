@@ -1,5 +1,5 @@
 -- The first of all held events leaves.
-use Rattle.engine_moves.proofs.LeaveMade.{release-made}
+use Rattle.engine_moves.proofs.FromCalls.Leave.{release-made}
 use borrow.Author.Needs.{needs}
 use Rattle.engine_moves.proofs.release.Statement.{statement}
 use Rattle.engine_moves.proofs.release.Tie as tie

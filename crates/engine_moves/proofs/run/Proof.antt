@@ -1,8 +1,8 @@
 -- An event has run; where the code does nothing, the bytes hold no queue or the node is no event's.
 use native.Mathlib.Omega.{arith}
-use Rattle.engine_moves.proofs.Promises.{tell-room}
-use Rattle.engine_moves.proofs.Nowhere.{nowhere-fits, nowhere-slot, nowhere-target}
-use Rattle.engine_moves.proofs.RunMade.{run-size, run-made, run-none}
+use Rattle.engine_moves.proofs.FromCalls.CallsOfChanges.{tell-room}
+use Rattle.engine_moves.proofs.FromCalls.NoneHeld.{nowhere-fits, nowhere-slot, nowhere-target}
+use Rattle.engine_moves.proofs.FromCalls.Run.{run-size, run-made, run-none}
 use borrow.Author.Needs.{needs}
 use Rattle.engine_moves.proofs.run.Statement.{statement}
 use Rattle.engine_moves.proofs.run.Tie as tie

@@ -1,7 +1,7 @@
--- The calendar is told what stands at the node behind the sentinel.
+-- The calendar is told what stands at the node after the sentinel.
 use mathlib.Core.Path.{refl}
 use native.Mathlib.Omega.{arith}
-use Rattle.engine_moves.proofs.Told.{tell-none, tell-time}
+use Rattle.engine_moves.proofs.Bytes.StationTime.{tell-none, tell-time}
 use borrow.Author.Needs.{needs}
 use Rattle.engine_moves.proofs.tell.Statement.{statement}
 use Rattle.engine_moves.proofs.tell.Tie as tie

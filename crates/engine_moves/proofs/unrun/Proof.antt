@@ -1,8 +1,8 @@
 -- An event is unrun again; where the code does nothing, the node is no run event's.
 use native.Mathlib.Omega.{arith}
-use Rattle.engine_moves.proofs.Promises.{tell-room}
-use Rattle.engine_moves.proofs.Nowhere.{nowhere-fits, nowhere-slot, nowhere-target}
-use Rattle.engine_moves.proofs.UnrunMade.{unrun-size, unrun-made, unrun-nowhere, unrun-other}
+use Rattle.engine_moves.proofs.FromCalls.CallsOfChanges.{tell-room}
+use Rattle.engine_moves.proofs.FromCalls.NoneHeld.{nowhere-fits, nowhere-slot, nowhere-target}
+use Rattle.engine_moves.proofs.FromCalls.Unrun.{unrun-size, unrun-made, unrun-nowhere, unrun-other}
 use borrow.Author.Needs.{needs}
 use Rattle.engine_moves.proofs.unrun.Statement.{statement}
 use Rattle.engine_moves.proofs.unrun.Tie as tie

@@ -3,7 +3,7 @@ use mathlib.Core.Path.{sym, _∙_}
 use native.Mathlib.Omega.{arith}
 use borrow.Author.Tests.{not-true, not-false}
 use Rattle.engine_events.proofs.Fitting.{fits-true}
-use Rattle.engine_promises.proofs.Unfit.{unfit-call}
+use Rattle.engine_promises.proofs.ShortBuffer.{unfit-call}
 use Rattle.engine_posting.proofs.Posting.{station-out, matter-unsuited, time-late, time-early, number-over, none-free, post-done}
 use denote.Ref.{now}
 use lib.ListN.{length}

@@ -4,7 +4,7 @@ use borrow.Author.Tests.{not-true, not-false}
 use denote.Ref.{now}
 use lib.ListN.{length}
 use Rattle.engine_events.proofs.Fitting.{fits-true}
-use Rattle.engine_promises.proofs.Unfit.{unfit-call}
+use Rattle.engine_promises.proofs.ShortBuffer.{unfit-call}
 use Rattle.engine_posting.proofs.Retracting.{unknown-post, removed-post}
 use Rattle.engine_posting.proofs.retract.Statement.{statement}
 use Rattle.engine_posting.proofs.retract.Tie as tie

@@ -6,12 +6,12 @@ use native.Mathlib.Omega.{arith}
 use borrow.Author.Needs.{needs}
 use borrow.Fn.Kinds.{In}
 use borrow.Fn.PlainCycle.{Measures, is, falls, and}
-use Rattle.engine_events.specs.Count.{runsBelow}
-use Rattle.engine_events.specs.Promises.{Behind}
-use Rattle.engine_rollback.proofs.Behinds.{behind-same, behind-on}
-use Rattle.engine_rollback.proofs.Few.{runs-few, runs-same}
-use Rattle.engine_rollback.proofs.Turns.{Goes, goes-at-first, test-at, goes-on, no-turn, ended-empty, ended-before, undoes-from}
-use Rattle.engine_rollback.proofs.Answers.{removes-none, removes-lower, removes-here, undoes-none, undoes-both, undoes-other}
+use Rattle.engine_events.specs.RunCount.{runsBelow}
+use Rattle.engine_events.specs.Promises.{AfterHeader}
+use Rattle.engine_events.proofs.AfterHeader.{after-header-same, after-header-on}
+use Rattle.engine_rollback.proofs.RunCount.{runs-few, runs-same}
+use Rattle.engine_rollback.proofs.UndoTurns.{Goes, goes-at-first, test-at, goes-on, no-turn, ended-empty, ended-before, undoes-from}
+use Rattle.engine_rollback.proofs.FromCalls.{removes-none, removes-lower, removes-here, undoes-none, undoes-both, undoes-other}
 use Rattle.engine_rollback.proofs.remove_below.Reads as remove-below
 use Rattle.engine_rollback.proofs.remove_below.Kinds as remove-below-kinds
 use Rattle.engine_rollback.proofs.+remove_below+undo+undo_from.Lts-remove_below as remove-below-lts
@@ -68,7 +68,7 @@ module _ (t : ℕ) where
   remove-below-returns : remove-below-lts.Need-returns remove-below-calls (remove-below-at t) remove-below.Post
   remove-below-returns c =
       let z : c .before .before .args .x ≡ 0 = omega arith in
-      (behind-same _, (omega arith, ((λ _. (refl, refl)), removes-none _ _ _ _ _ z)))
+      (after-header-same _, (omega arith, ((λ _. (refl, refl)), removes-none _ _ _ _ _ z)))
 
   remove-below-undo-from-requires : remove-below-lts.Need-undo-from-requires remove-below-calls (remove-below-at t) remove-below.Post
   remove-below-undo-from-requires c κs = (omega arith, (omega arith, omega arith))
@@ -78,7 +78,7 @@ module _ (t : ℕ) where
       let u = c .before .before .before .before .before .before .undo-from .ensures in
       let d = c .before .before .discard .ensures in
       let e = c .before .before .before .before .before .before .before .before .before .event .ensures in (
-        behind-on (u .0) (d .0),
+        after-header-on (u .0) (d .0),
         (omega (arith, u .1 .0, d .1 .0), ((λ z. absurd (omega (arith, z))), removes-lower _ _ _ _ _ e (u .1 .1) (d .1 .1))),
       )
 
@@ -106,7 +106,7 @@ module _ (t : ℕ) where
   )
 
   undo-returns : undo-lts.Need-returns undo-calls (undo-at t) undo.Post
-  undo-returns c = (behind-same _, (omega arith, undoes-none _ _ _ _ (c .before .event .ensures) (omega arith)))
+  undo-returns c = (after-header-same _, (omega arith, undoes-none _ _ _ _ (c .before .event .ensures) (omega arith)))
 
   undo-remove-below-requires : undo-lts.Need-remove-below-requires undo-calls (undo-at t) undo.Post
   undo-remove-below-requires c κs =
@@ -141,7 +141,7 @@ module _ (t : ℕ) where
       let e = c .before .before .before .before .before .before .before .before .before .before .before .before .before .before .before .before .before .before .event .ensures in
       let k = c .before .before .before .before .before .before .before .before .before .before .before .before .before .before .before .first-send .ensures in
       let m = c .before .before .before .before .before .before .before .before .before .before .before .before .before .second-send .ensures in (
-        behind-on (r .0) (behind-on (f .0) (g .0)),
+        after-header-on (r .0) (after-header-on (f .0) (g .0)),
         (
           omega (arith, r .1 .1 .0 (cc), f .1 .0, g .1 .0),
           undoes-both _ _ _ _ e k m (r .1 .1 .1) (f .1 .1 .0) (f .1 .1 .1) (g .1 .1 .0) (g .1 .1 .1),
@@ -155,9 +155,9 @@ module _ (t : ℕ) where
 
 -- ---- undo_from
 
--- the changes are behind the header; as many fewer slots have run as are counted; what the bytes held leaves the rest to undo
+-- the changes are after the header; as many fewer slots have run as are counted; what the bytes held leaves the rest to undo
 abbrev undo-from-Inv-loop : undo-from-lts.InvT-loop
-undo-from-Inv-loop b₀ n c s e count₀ b count = Behind b₀ b × (count + runsBelow n b c ≤ runsBelow n b₀ c) × Goes n c b₀ s e count b
+undo-from-Inv-loop b₀ n c s e count₀ b count = AfterHeader b₀ b × (count + runsBelow n b c ≤ runsBelow n b₀ c) × Goes n c b₀ s e count b
 
 abbrev undo-from-μ-loop : undo-from-lts.MeasureT-loop
 undo-from-μ-loop b₀ n c s e count₀ b count = runsBelow n b c
@@ -167,7 +167,7 @@ module _ (t : ℕ) where
   undo-from-calls = (prev-reads.Asked, prev-reads.Learnt, slot-reads.Asked, slot-reads.Learnt, before-reads.Asked, before-reads.Learnt, undo-below t, undo.Post)
 
   undo-from-loop-holds : undo-from-lts.Need-loop-holds undo-from-calls (undo-from-at t) undo-from.Post undo-from-Inv-loop undo-from-μ-loop
-  undo-from-loop-holds c = (behind-same _, omega arith, goes-at-first _ _ _ _ _)
+  undo-from-loop-holds c = (after-header-same _, omega arith, goes-at-first _ _ _ _ _)
 
   undo-from-add-prev : undo-from-lts.Need-add-prev undo-from-calls (undo-from-at t) undo-from.Post undo-from-Inv-loop undo-from-μ-loop
   undo-from-add-prev c = omega arith
@@ -205,7 +205,7 @@ module _ (t : ℕ) where
       let a = c .before .before .before .before .before .before .before .slot .ensures in
       let b = c .before .before .before .before .before .before .before2 .ensures in
       let v = test-at _ _ _ _ a b (c .before .before .before .before .before .if2 .left) in (
-        behind-on (i .0) (u .0),
+        after-header-on (i .0) (u .0),
         (omega (arith, i .1, u .1 .0), no-turn l _ x (λ z. omega (arith, z)) v (i .2) (u .1 .1) (omega arith)),
       )
 
@@ -229,7 +229,7 @@ module _ (t : ℕ) where
       let a = c .before .before .before .before .before .before .before .slot .ensures in
       let b = c .before .before .before .before .before .before .before2 .ensures in
       let v = test-at _ _ _ _ a b (c .before .before .before .before .before .if2 .left) in
-      (behind-on (i .0) (u .0), omega (arith, i .1, u .1 .0), goes-on l _ x (λ z. omega (arith, z)) v (i .2) (u .1 .1))
+      (after-header-on (i .0) (u .0), omega (arith, i .1, u .1 .0), goes-on l _ x (λ z. omega (arith, z)) v (i .2) (u .1 .1))
 
 pub +remove-below+undo+undo-from-spec : {M : Type 1} → statement M
 +remove-below+undo+undo-from-spec =

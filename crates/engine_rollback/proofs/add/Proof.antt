@@ -1,24 +1,24 @@
 -- `engine_rollback::add` meets its contract: the later run events of the target are undone, and the queue takes the event.
 use native.Mathlib.Omega.{arith}
 use borrow.Author.Needs.{needs}
-use Rattle.engine_rollback.proofs.Behinds.{behind-same, behind-on}
-use Rattle.engine_rollback.proofs.Few.{runs-few}
-use Rattle.engine_rollback.proofs.Answers.{adds, adds-out, adds-else}
+use Rattle.engine_events.proofs.AfterHeader.{after-header-same, after-header-on}
+use Rattle.engine_rollback.proofs.RunCount.{runs-few}
+use Rattle.engine_rollback.proofs.FromCalls.{adds, adds-out, adds-else}
 use Rattle.engine_rollback.proofs.add.Statement.{statement}
 use Rattle.engine_rollback.proofs.add.Tie as tie
 
 returns : tie.Need-returns
-returns c = (behind-same _, (omega arith, adds-out _ _ _ (omega arith)))
+returns c = (after-header-same _, (omega arith, adds-out _ _ _ (omega arith)))
 
 returns-2 : tie.Need-returns-2
-returns-2 c = (behind-same _, (omega arith, adds-else _ _ _ (omega arith)))
+returns-2 c = (after-header-same _, (omega arith, adds-else _ _ _ (omega arith)))
 
 returns-3 : tie.Need-returns-3
 returns-3 c =
     let o = c .before .before .before .before .before .before .before .before .before .before .before in
     let u = c .before .before .before .before .before .before .roll-back .ensures in
     let h = c .before .before .hold .ensures in (
-      behind-on (u .0) (h .0),
+      after-header-on (u .0) (h .0),
       (omega (arith, u .1 .0, runs-few (o .args .n) (o .args .b .now) (o .args .c)), adds _ _ _ (u .1 .1) (h .1)),
     )
 

@@ -1,14 +1,14 @@
 -- `engine_rollback::remove` meets its contract: every target is below n.
 use native.Mathlib.Omega.{arith}
 use borrow.Author.Needs.{needs}
-use Rattle.engine_rollback.proofs.Behinds.{behind-same}
-use Rattle.engine_rollback.proofs.Few.{runs-few}
-use Rattle.engine_rollback.proofs.Answers.{removes, removes-else}
+use Rattle.engine_events.proofs.AfterHeader.{after-header-same}
+use Rattle.engine_rollback.proofs.RunCount.{runs-few}
+use Rattle.engine_rollback.proofs.FromCalls.{removes, removes-else}
 use Rattle.engine_rollback.proofs.remove.Statement.{statement}
 use Rattle.engine_rollback.proofs.remove.Tie as tie
 
 returns : tie.Need-returns
-returns c = (behind-same _, (omega arith, removes-else _ _ _ (omega arith)))
+returns c = (after-header-same _, (omega arith, removes-else _ _ _ (omega arith)))
 
 returns-2 : tie.Need-returns-2
 returns-2 c =

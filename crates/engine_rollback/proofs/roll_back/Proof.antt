@@ -1,12 +1,12 @@
 -- Where nothing is to be undone the bytes stay, and else undo_from has done it.
 use native.Mathlib.Omega.{arith}
 use borrow.Author.Needs.{needs}
-use Rattle.engine_rollback.proofs.Behinds.{behind-same}
+use Rattle.engine_events.proofs.AfterHeader.{after-header-same}
 use Rattle.engine_rollback.proofs.roll_back.Statement.{statement}
 use Rattle.engine_rollback.proofs.roll_back.Tie as tie
 
 returns : tie.Need-returns
-returns c = (behind-same _, (omega arith, c .before .settled .ensures (c .if1 .taken)))
+returns c = (after-header-same _, (omega arith, c .before .settled .ensures (c .if1 .taken)))
 
 returns-2 : tie.Need-returns-2
 returns-2 c = c .before .before .undo-from .ensures

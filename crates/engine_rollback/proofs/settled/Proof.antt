@@ -2,7 +2,7 @@
 use Prim.Native.Nat.{_<_}
 use native.Mathlib.Omega.{arith}
 use borrow.Author.Needs.{needs}
-use Rattle.engine_rollback.proofs.Turns.{goes-at-first, test-at, ended-empty, ended-before, undoes-from}
+use Rattle.engine_rollback.proofs.UndoTurns.{goes-at-first, test-at, ended-empty, ended-before, undoes-from}
 use Rattle.engine_rollback.proofs.settled.Statement.{statement}
 use Rattle.engine_rollback.proofs.settled.Tie as tie
 

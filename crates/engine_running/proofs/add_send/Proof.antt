@@ -1,13 +1,13 @@
 -- An empty place adds nothing, and the other one its event.
 use mathlib.Core.Path.{refl}
 use native.Mathlib.Omega.{arith}
-use Rattle.engine_rollback.proofs.Behinds.{behind-same}
+use Rattle.engine_events.proofs.AfterHeader.{after-header-same}
 use borrow.Author.Needs.{needs}
 use Rattle.engine_running.proofs.add_send.Statement.{statement}
 use Rattle.engine_running.proofs.add_send.Tie as tie
 
 returns : tie.Need-returns
-returns c = (behind-same _, (omega arith, rw (c .enum-told .given .1) (refl, refl, refl)))
+returns c = (after-header-same _, (omega arith, rw (c .enum-told .given .1) (refl, refl, refl)))
 
 returns-2 : tie.Need-returns-2
 returns-2 c =

@@ -1,7 +1,7 @@
 -- The tests are those of the rules, in their order; then the sends are added and the event is run.
 use native.Mathlib.Omega.{arith}
 use borrow.Author.Tests.{not-true}
-use Rattle.engine_rollback.proofs.Behinds.{behind-on}
+use Rattle.engine_events.proofs.AfterHeader.{after-header-on}
 use Rattle.engine_running.proofs.Outcomes.{two-sends}
 use Rattle.engine_running.proofs.Running.{reads-of}
 use Rattle.engine_running.proofs.RunCalls.{too-short, no-station, none-waits, counts-pass, places-few, run-done}
@@ -99,7 +99,7 @@ returns-6 c =
     run-done (reads-of (if2 .left) (next .ensures) (slot-in .ensures) (if3 .left) (event .ensures) (config .ensures) (state .ensures) (run-event .ensures)) _
     (effect .given .1) (free-places .ensures) (omega (arith, if4 .left, sends .ensures, sends2 .ensures)) (λ j. omega (arith, slice-known .given j)) _ _ _ _ _ _
     _ (add-send .ensures .1 .1) (add-send2 .ensures .1 .1) (run .ensures .1)
-    (behind-on (add-send .ensures .0) (behind-on (add-send2 .ensures .0) (run .ensures .0)))
+    (after-header-on (add-send .ensures .0) (after-header-on (add-send2 .ensures .0) (run .ensures .0)))
 
 pub run-at-spec : {M : Type 1} → statement M
 run-at-spec =

@@ -1,6 +1,6 @@
 -- The calendar's station is run.
 use borrow.Author.Tests.{not-true}
-use Rattle.engine_promises.proofs.Unfit.{unfit-call}
+use Rattle.engine_promises.proofs.ShortBuffer.{unfit-call}
 use Rattle.engine_running.proofs.RunCalls.{none-lowest, far-lowest, lowest-run}
 use borrow.Author.Needs.{needs}
 use Rattle.engine_running.proofs.run_lowest.Statement.{statement}

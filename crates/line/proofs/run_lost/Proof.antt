@@ -2,7 +2,7 @@
 use native.Mathlib.Omega.{arith}
 use native.Mathlib.Numerals.{add-one}
 use Rattle.line.specs.Station.{silent, drawnState, lose}
-use Rattle.line.proofs.Said.{passed, stays}
+use Rattle.line.proofs.Answers.{passed, stays}
 use borrow.Author.Needs.{needs}
 use Rattle.line.proofs.run_lost.Statement.{statement}
 use Rattle.line.proofs.run_lost.Tie as tie

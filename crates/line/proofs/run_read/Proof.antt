@@ -3,7 +3,7 @@ use mathlib.Core.Path.{sym, _∙_, ap}
 use borrow.Author.Tests.{ne-eqb, eq-eqb}
 use Rattle.line.specs.Station.{runRead}
 use Rattle.line.specs.Answer.{said}
-use Rattle.line.proofs.Said.{ahead, single, stays, chain}
+use Rattle.line.proofs.Answers.{ahead, single, stays, chain}
 use borrow.Author.Needs.{needs}
 use Rattle.line.proofs.run_read.Statement.{statement}
 use Rattle.line.proofs.run_read.Tie as tie

@@ -3,7 +3,7 @@ use mathlib.Core.Path.{sym}
 use native.Mathlib.Omega.{arith}
 use native.Mathlib.Numerals.{add-one}
 use Rattle.line.specs.Station.{silent}
-use Rattle.line.proofs.Said.{kept, passed, late, timely}
+use Rattle.line.proofs.Answers.{kept, passed, late, timely}
 use borrow.Author.Needs.{needs}
 use Rattle.line.proofs.send.Statement.{statement}
 use Rattle.line.proofs.send.Tie as tie

@@ -2,7 +2,7 @@
 use mathlib.Core.Path.{sym}
 use native.Mathlib.Omega.{arith}
 use Rattle.line.specs.Station.{silent}
-use Rattle.line.proofs.Said.{kept}
+use Rattle.line.proofs.Answers.{kept}
 use Rattle.line.proofs.silent.Statement.{statement}
 use Rattle.line.proofs.silent.Tie as tie
 

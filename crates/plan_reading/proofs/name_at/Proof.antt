@@ -1,4 +1,4 @@
--- The copy holds the first bytes of the name, with zeros behind them.
+-- The copy holds the first bytes of the name, with zeros after them.
 use Prim.Native.Nat.{ℕ, _+_, _-_, _≤_}
 use native.Mathlib.Omega.{arith}
 use mathlib.Core.Path.{_≡_, refl, sym, _∙_, ap}

@@ -1,4 +1,4 @@
--- The record of station k begins at most 281 bytes for each station before it behind the pairs.
+-- The record of station k begins at most 281 bytes for each station before it after the pairs.
 use Prim.Native.Nat.{_+_, _-_, _*_, _≤_}
 use mathlib.Core.Path.{_≡_}
 use lib.ListN.{length}

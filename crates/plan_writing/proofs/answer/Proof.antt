@@ -1,4 +1,4 @@
--- `answer` meets its contract: each `return` stands behind the tests that `answered` makes.
+-- `answer` meets its contract: each `return` stands after the tests that `answered` makes.
 use Rattle.plan_writing.specs.Steps.{answered}
 use borrow.Author.Tests.{lt-ltb, le-ltb}
 use borrow.Author.Needs.{needs}

@@ -1,4 +1,4 @@
--- `is_ready` meets its contract: each `return` stands behind the tests that `ready` makes.
+-- `is_ready` meets its contract: each `return` stands after the tests that `ready` makes.
 use borrow.Author.Tests.{lt-ltb, le-ltb, le-leb, lt-leb}
 use Rattle.plan_writing.proofs.is_ready.Statement.{statement}
 use Rattle.plan_writing.proofs.is_ready.Tie as tie

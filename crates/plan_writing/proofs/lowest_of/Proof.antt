@@ -1,4 +1,4 @@
--- `lowest_of` meets its contract: each `return` stands behind the tests that `lower` makes.
+-- `lowest_of` meets its contract: each `return` stands after the tests that `lower` makes.
 use native.Mathlib.Numerals.{add-one}
 use borrow.Author.Tests.{lt-ltb, le-ltb}
 use borrow.Author.Needs.{needs}

@@ -1,4 +1,4 @@
--- `put_pair` meets its contract: two stores, one behind the other, are one run.
+-- `put_pair` meets its contract: two stores, one after the other, are one run.
 use Rattle.plan_writing.proofs.WriteStores.{store-sets, store-then}
 use Rattle.words.proofs.Laws.{length-bytes}
 use Rattle.words.specs.Le.{bytesOf}

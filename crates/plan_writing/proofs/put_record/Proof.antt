@@ -1,4 +1,4 @@
--- `put_record` meets its contract: the numbers and the name, each behind the last, are one run.
+-- `put_record` meets its contract: the numbers and the name, each after the last, are one run.
 use Rattle.plan_writing.specs.Steps.{headOf, tailOf}
 use Rattle.plan_format.specs.Writing.{recordBytes}
 use Rattle.plan_writing.proofs.WriteStores.{sets-then}

@@ -1,4 +1,4 @@
--- `wanted_of` meets its contract: each `return` stands behind the tests that `wanted` makes.
+-- `wanted_of` meets its contract: each `return` stands after the tests that `wanted` makes.
 use borrow.Author.Tests.{lt-ltb, le-ltb}
 use Rattle.plan_writing.proofs.wanted_of.Statement.{statement}
 use Rattle.plan_writing.proofs.wanted_of.Tie as tie

@@ -1,0 +1,6 @@
+pub mod Contents
+pub mod NodeMoves
+pub mod Order
+pub mod Filing
+pub mod RingEnds
+pub mod RingSearches

@@ -1,0 +1,152 @@
+-- The node after a station's sentinel tells the time at which the calendar has to have the station.
+use mathlib.Core.Path.{_≡_, refl, sym, ap, _∙_, subst}
+use mathlib.Core.Logic.{_≢_}
+use mathlib.Core.Option.{Option, none, some}
+use mathlib.Core.List.{List, [], _∷_, _++_}
+use Prim.Native.Nat.{ℕ, _+_, _-_, _*_, _≤_, _<_}
+use native.Mathlib.Omega.{arith}
+use borrow.Rule.Slice.PartMut.{putMid}
+use lib.ListN.{length, take, drop, getD, set, length-set}
+use lib.Seq.{getD-set-same, getD-set-other}
+use Rattle.words.specs.Le.{loadAt}
+use Rattle.line.specs.declared.Event.{Event}
+use Rattle.rules.specs.Held.{Held, unrun, event, absent, at, timeOf, registered, leastUnrun, Found}
+use Rattle.rules.proofs.Update.{Which, this, other, which}
+use Rattle.rules.proofs.Undo.RunFirst.{first-in as held-in}
+use Rattle.rules.proofs.Replay.Registered.{registered-at, registered-first}
+use Rattle.rings.specs.Table.{nextOf, Frame}
+use Rattle.engine_rows.specs.Layout.{slotRow}
+use Rattle.engine_rows.proofs.RecordLaws.{event-time}
+use Rattle.calendar.specs.declared.Answer.{Answer}
+use Rattle.calendar.specs.Rules.{withTime, registerChecks, registered as entered, unregisterChecks, unregistered}
+use Rattle.calendar.specs.Bytes.{Sound, stateOf}
+use Rattle.calendar.specs.Promises.{Obeys}
+use Rattle.engine_events.specs.Shows.{asTime}
+use Rattle.engine_events.proofs.CalendarShown.{at-time, absent-time}
+use Rattle.engine_index.specs.Layout.{slotOf, linksAt}
+use Rattle.engine_index.specs.Represents.{Cell, cell, ringOf, Stands, NoneIn}
+use Rattle.engine_index.proofs.Slots.SlotBytes.{held-event}
+use Rattle.engine_index.proofs.Changes.Mark.{node-of}
+use Rattle.engine_index.proofs.Rings.RingEnds.{next-none, first-in}
+use Rattle.engine_index.proofs.Rings.RingSearches as search
+use Rattle.engine_index.proofs.Rings.RingSearches.{First, first, waits}
+use Rattle.engine_index.proofs.Changes.ToRules as rules
+use Rattle.engine_index.proofs.Changes.ToRules.{least-some, least-none}
+use Rattle.engine_events.specs.Represents.{part, heldOf, Calendared, Untold}
+use Rattle.engine_events.specs.Promises.{Tells}
+use Rattle.engine_events.proofs.CalendarPart.{Put, part-put}
+use Rattle.engine_events.proofs.StationsKept.{stores-kept}
+use Rattle.engine_events.proofs.CalendarAccepts.{accepted-done, register-accepted, unregister-accepted}
+
+pub held-same : (cells : List Cell) → rules.heldOf cells ≡ heldOf cells
+held-same [] = refl
+held-same (y ∷ ys) = ap (λ (l : List Held). y .held ∷ l) (held-same ys)
+
+-- ---- the node after the sentinel
+
+module _ {n c : ℕ} {xs : List ℕ} {free : List ℕ} (s : ℕ) (l : s < n) where
+  -- the first cell that waits at s
+  at-first : (A : List Cell) (y : Cell) (B : List Cell) → Stands n c xs (A ++ y ∷ B) free → NoneIn n s A → ringOf n (y .held) ≡ s
+      → (nextOf xs (linksAt n c) s ≡ y .node) × (s < y .node)
+      × (registered (heldOf (A ++ y ∷ B)) s ≡ at (loadAt 8 (slotRow n (slotOf n (y .node))) xs))
+  at-first A y B S z e =
+      let w = node-of A y B S in
+      let h = waits n s l (y .held) e in
+      let next : nextOf xs (linksAt n c) s ≡ y .node =
+      subst (λ (u : ℕ). NoneIn n u A → nextOf xs (linksAt n c) u ≡ y .node) e (first-in A y B S) z in
+      let none : NoneIn n (event (y .held) .target) A = subst (λ (u : ℕ). NoneIn n u A) (sym (h .1)) z in
+      let same : heldOf (A ++ y ∷ B) ≡ rules.heldOf (A ++ cell (y .node) (unrun (event (y .held))) ∷ B) =
+      ap (λ (g : Held). heldOf (A ++ cell (y .node) g ∷ B)) (h .0) ∙ sym (held-same (A ++ cell (y .node) (unrun (event (y .held))) ∷ B)) in
+      let least : leastUnrun s (heldOf (A ++ y ∷ B)) ≡ Found.some (event (y .held)) =
+      ap (leastUnrun s) same
+      ∙ subst (λ (u : ℕ). leastUnrun u (rules.heldOf (A ++ cell (y .node) (unrun (event (y .held))) ∷ B)) ≡ Found.some (event (y .held))) (h .1)
+      (least-some n (y .node) (event (y .held)) A B none) in
+      let time : loadAt 8 (slotRow n (slotOf n (y .node))) xs ≡ event (y .held) .time =
+      event-time (slotRow n (slotOf n (y .node))) xs ∙ ap (λ (x : Event). x .time) (held-event n xs (y .node) (y .held) (w .0)) in
+      (next, omega (arith, w .1), registered-at s (heldOf (A ++ y ∷ B)) (event (y .held)) least ∙ ap at (sym time))
+
+  -- it is the sentinel: no event waits there
+  pub none-waits : (cells : List Cell) → Stands n c xs cells free → nextOf xs (linksAt n c) s ≡ s → registered (heldOf cells) s ≡ absent
+  unfolding registered timeOf
+  none-waits cells S e = go (first n s cells) S
+    where
+      go : {cells : List Cell} → First n s cells → Stands n c xs cells free → registered (heldOf cells) s ≡ absent
+      go (search.none {cells = cells} z) S = rw (← held-same cells, least-none n s cells z)
+      go (search.some A y B z q) S = let f = at-first A y B S z q in absurd (omega (arith, f .0, f .1))
+
+  -- it is another node: that of the first event that waits there
+  pub first-waits : (cells : List Cell) → Stands n c xs cells free → nextOf xs (linksAt n c) s ≢ s
+      → registered (heldOf cells) s ≡ at (loadAt 8 (slotRow n (slotOf n (nextOf xs (linksAt n c) s))) xs)
+  first-waits cells S d = go (first n s cells) S
+    where
+      go : {cells : List Cell} → First n s cells → Stands n c xs cells free
+          → registered (heldOf cells) s ≡ at (loadAt 8 (slotRow n (slotOf n (nextOf xs (linksAt n c) s))) xs)
+      go (search.none z) S = absurd (d (next-none S s (omega arith) z))
+      go (search.some A y B z q) S = let f = at-first A y B S z q in rw (f .0) (f .2)
+
+-- ---- the calendar is told
+
+module _ {n now s : ℕ} {xs : List ℕ} {h : List Held} (o : Option ℕ) (l : s < n) (U : Untold n now s xs h) (r : asTime (registered h s) ≡ o) where
+  each-told : (t : ℕ) → t < n → Which t s → getD (set (stateOf (part n xs) .times) s o) t none ≡ asTime (registered h t)
+  each-told t m (this e _) =
+      subst (λ (u : ℕ). getD (set (stateOf (part n xs) .times) s o) u none ≡ asTime (registered h u)) (sym e)
+      (getD-set-same (stateOf (part n xs) .times) s o none (omega (arith, U .size)) ∙ sym r)
+  each-told t m (other d _) = getD-set-other (stateOf (part n xs) .times) s t o none d ∙ U .others t m d
+
+  pub told : {zs : List ℕ} (ys : List ℕ) → part n ys ≡ zs → Sound zs → stateOf zs ≡ withTime (stateOf (part n xs)) s o → Calendared n now ys h
+  told ys P Z q =
+      record {
+        sound = rw P Z;
+        floor = rw (P, q) (U .floor);
+        shows = rw (P, q) record {
+          length-is = length-set (stateOf (part n xs) .times) s o ∙ U .size;
+          each = λ t m. each-told t m (which t s);
+          inside = U .inside;
+        };
+      }
+
+-- ---- the two ways of the code
+
+abbrev After : ℕ → ℕ → ℕ → ℕ → List ℕ → List ℕ → Type 0
+After n c s end xs zs = Frame 64 (32768 + 64 * n) xs (putMid 64 (end - 64) xs zs) × Tells n c s xs (putMid 64 (end - 64) xs zs)
+
+module _ (n c s : ℕ) {end x : ℕ} (xs zs : List ℕ) (b : s < n) (le : end ≡ 32832 + 64 * n) (long : 32832 + 64 * n ≤ length xs)
+    (size : length zs ≡ length (take (end - 64) (drop 64 xs))) (next : x ≡ nextOf xs (linksAt n c) s) where
+  pub tell-none : {r : Answer} → x ≡ s → Obeys (λ q. unregisterChecks q s) (λ q. unregistered q s) (take (end - 64) (drop 64 xs)) r zs → After n c s end xs zs
+  tell-none {r} e O = (
+    put .1 .1,
+    λ p now q cells S U.
+        let O : Obeys (λ q. unregisterChecks q s) (λ q. unregistered q s) (part n xs) r zs = rw (put .0) at O in
+        let done = accepted-done r (O .answer (U .sound) ∙ unregister-accepted (stateOf (part n xs)) s (omega (arith, U .size))) in
+        let gone : registered (q .held) s ≡ absent = rw (S .held) at (none-waits s b cells (S .stands) (sym next ∙ e)) in
+        record {
+          stores = stores-kept (put .1 .1) (omega arith) S;
+          calendar =
+              told none b U (absent-time (registered (q .held) s) gone) (putMid 64 (end - 64) xs zs) (put .1 .0) (O .sound (U .sound)) (O .state (U .sound) done);
+        },
+  )
+    where
+      put : (take (end - 64) (drop 64 xs) ≡ part n xs) × Put n xs zs (putMid 64 (end - 64) xs zs)
+      put = part-put n xs zs le long size
+
+  pub tell-time : {r : Answer} {i t : ℕ} → x ≢ s → i ≡ slotOf n x → t ≡ loadAt 8 (slotRow n i) xs
+      → Obeys (λ q. registerChecks q s t) (λ q. entered q s t) (take (end - 64) (drop 64 xs)) r zs → After n c s end xs zs
+  tell-time {r} {i} {t} d ei et O = (
+    put .1 .1,
+    λ p now q cells S U.
+        let O : Obeys (λ q. registerChecks q s t) (λ q. entered q s t) (part n xs) r zs = rw (put .0) at O in
+        let time : t ≡ loadAt 8 (slotRow n (slotOf n (nextOf xs (linksAt n c) s))) xs = et ∙ rw (ei, next) in
+        let is : registered (q .held) s ≡ at t = rw (S .held, ← time) at (first-waits s b cells (S .stands) (λ z. d (next ∙ z))) in
+        let f = registered-first s (q .held) t is in
+        let k = S .times (unrun (f .0)) (held-in (f .1)) in
+        let done = accepted-done r (O .answer (U .sound)
+        ∙ register-accepted (stateOf (part n xs)) s t (omega (arith, U .size)) (omega (arith, k .1, f .2)) (omega (arith, k .0, f .2, U .floor))) in
+        record {
+          stores = stores-kept (put .1 .1) (omega arith) S;
+          calendar =
+              told (some t) b U (at-time (registered (q .held) s) t is) (putMid 64 (end - 64) xs zs) (put .1 .0) (O .sound (U .sound)) (O .state (U .sound) done);
+        },
+  )
+    where
+      put : (take (end - 64) (drop 64 xs) ≡ part n xs) × Put n xs zs (putMid 64 (end - 64) xs zs)
+      put = part-put n xs zs le long size

@@ -1,0 +1,5 @@
+pub mod Split
+pub mod OrderSplit
+pub mod SendNodes
+pub mod NoneBetween
+pub mod Members

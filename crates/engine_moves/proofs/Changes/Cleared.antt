@@ -1,0 +1,78 @@
+-- A new calendar and an index with all slots free hold no event.
+use mathlib.Core.Path.{_≡_, refl, sym, _∙_}
+use mathlib.Core.Bool.{Bool, false, true≢false}
+use mathlib.Core.Logic.{inl, inr}
+use mathlib.Core.List.{List, [], _∷_, List·Memᴰ·not-nil}
+use Prim.Native.Nat.{ℕ, zero, suc, _+_, _-_, _*_, _≤_, _<_}
+use native.Mathlib.Omega.{arith}
+use borrow.Rule.Slice.PartMut.{putMid}
+use lib.ListN.{length, take, drop, length-append, length-drop}
+use lib.Seq.{length-take-le}
+use Rattle.rules.specs.Engine.{opened}
+use Rattle.rings.specs.Table.{Frame}
+use Rattle.rings.proofs.Frames.{frame-same, frame-on, frame-wider}
+use Rattle.engine_rows.specs.Layout.{stationRow, slotRow}
+use Rattle.calendar.specs.declared.Answer.{Answer}
+use Rattle.calendar.specs.Rules as calendar
+use Rattle.calendar.specs.Bytes.{stateOf}
+use Rattle.calendar.specs.Promises.{Opens}
+use Rattle.engine_events.proofs.CalendarShown.{opened-shows}
+use Rattle.engine_index.specs.Layout.{indexBytes}
+use Rattle.engine_index.specs.Opening as index
+use Rattle.engine_index.specs.Opening.{places}
+use Rattle.engine_events.specs.Represents.{fitsIn, part}
+use Rattle.engine_events.specs.Promises.{AfterHeader, ClearsEvents}
+use Rattle.engine_events.proofs.CalendarPart.{Put, part-put, part-kept}
+use Rattle.engine_events.proofs.StationsKept.{config-kept, state-kept}
+use Rattle.engine_events.proofs.CalendarAccepts.{accepted-done, open-accepted}
+
+length-places : (n c : ℕ) → length (places n c) ≡ c
+unfolding places
+length-places n zero = refl
+length-places n (suc c) = length-append (places n c) ((2 * n + 1 + c) ∷ []) ∙ (let h : length (places n c) ≡ c = length-places n c in omega arith)
+
+pub cleared : (n c width : ℕ) {end : ℕ} (xs zs ys : List ℕ) {r : Answer} → 0 < n → n ≤ 256 → c ≤ 4096 → 32768 + 256 * n + 256 * c ≤ length xs
+    → end ≡ 32832 + 64 * n → length zs ≡ length (take (end - 64) (drop 64 xs)) → Opens n width (take (end - 64) (drop 64 xs)) r zs
+    → Frame (slotRow n 0) (indexBytes n c) (putMid 64 (end - 64) xs zs) ys → index.Clears n c (putMid 64 (end - 64) xs zs) ys
+    → AfterHeader xs ys × ClearsEvents n c width xs ys
+unfolding opened
+cleared n c width {end} xs zs ys {r} some few slots long le size O F K = (
+  frame-on (frame-wider 64 (length xs) (omega arith) (omega arith) G) (frame-wider 64 (length xs) (omega arith) (omega arith) F),
+  λ p count a b f w v configs states.
+      let O : Opens n width (part n xs) r zs = rw (put .0) at O in
+      let long-part : length (part n xs) ≡ 32768 + 64 * n = length-take-le (32768 + 64 * n) (drop 64 xs) (omega (arith, length-drop 64 xs)) in
+      let done = accepted-done r (O .answer ∙ open-accepted n width (length (part n xs)) a few w v (omega arith)) in
+      let left : part n ys ≡ zs = part-kept n F (omega arith) ∙ put .1 .0 in
+      let state : stateOf zs ≡ calendar.opened n width = O .state done in
+      record {
+        stores = record {
+          count = count;
+          long = omega (arith, F .size, G .size);
+          configs = λ s l. config-kept F (stationRow n s) (inr (omega arith)) ∙ config-kept G (stationRow n s) (inl (omega arith)) ∙ configs s l;
+          states = λ s l. state-kept F (stationRow n s + 32) (inr (omega arith)) ∙ state-kept G (stationRow n s + 32) (inl (omega arith)) ∙ states s l;
+          free = places n c;
+          stands = K few slots (omega (arith, G .size));
+          places = omega (arith, length-places n c);
+          held = refl;
+          times = λ y m. absurd (List·Memᴰ·not-nil m);
+          kids = λ x e b m. absurd (List·Memᴰ·not-nil m);
+        };
+        calendar = record {
+          sound = rw left (O .sound done);
+          floor = rw (left, state);
+          shows = rw (left, state) (opened-shows n);
+        };
+      },
+)
+  where
+    put : (take (end - 64) (drop 64 xs) ≡ part n xs) × Put n xs zs (putMid 64 (end - 64) xs zs)
+    put = part-put n xs zs le (omega arith) size
+
+    G : Frame 64 (32768 + 64 * n) xs (putMid 64 (end - 64) xs zs)
+    G = put .1 .1
+
+pub clears-fits : (n c width : ℕ) (xs : List ℕ) {r : Bool} → r ≡ fitsIn n c (length xs) → r ≡ false → AfterHeader xs xs × ClearsEvents n c width xs xs
+clears-fits n c width xs e z = (frame-same 64 (length xs) xs, λ p _ _ _ f _ _ _ _. absurd (true≢false (sym f ∙ sym e ∙ z)))
+
+pub clears-station : (n c width : ℕ) (xs : List ℕ) → n ≤ 0 → AfterHeader xs xs × ClearsEvents n c width xs xs
+clears-station n c width xs z = (frame-same 64 (length xs) xs, λ p _ a _ _ _ _ _ _. absurd (omega arith))

@@ -1,0 +1,6 @@
+pub mod CallsOfChanges
+pub mod NoneHeld
+pub mod Hold
+pub mod Run
+pub mod Unrun
+pub mod Leave

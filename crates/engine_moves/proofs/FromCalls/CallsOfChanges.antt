@@ -1,0 +1,32 @@
+-- What the calls of a change promise, and what `tell` requires.
+use mathlib.Core.Path.{_≡_}
+use mathlib.Core.Logic.{inl}
+use mathlib.Core.Bool.{Bool, true}
+use mathlib.Core.List.{List}
+use Prim.Native.Nat.{ℕ, _+_, _*_, _≤_, _<_}
+use native.Mathlib.Omega.{arith}
+use Rattle.words.specs.Le.{loadAt}
+use Rattle.rings.specs.Table.{Frame}
+use Rattle.engine_rows.specs.Layout.{slotRow}
+use Rattle.engine_index.specs.Layout.{indexBytes}
+use Rattle.engine_events.specs.Represents.{fitsIn}
+use Rattle.engine_events.specs.Promises.{Tells}
+use Rattle.engine_events.proofs.Fitting.{fits-true}
+
+-- the calendar is told
+abbrev pub Told : ℕ → ℕ → ℕ → List ℕ → List ℕ → Type 0
+Told n c s xs ys = Frame 64 (32768 + 64 * n) xs ys × Tells n c s xs ys
+
+-- the index is changed
+abbrev pub Indexed : ℕ → ℕ → List ℕ → List ℕ → Type 0
+Indexed n c xs ys = Frame (slotRow n 0) (indexBytes n c) xs ys
+
+-- what `tell` requires
+pub tell-room : (n c s : ℕ) {v : Bool} {l m : ℕ} → v ≡ fitsIn n c l → v ≡ true → s < n → m ≡ l
+    → (n ≤ 256) × (c ≤ 4096) × (s < n) × (32768 + 256 * n + 256 * c ≤ m)
+tell-room n c s {l = l} e t b k = let w = fits-true n c l e t in (w .0, w .1, b, rw k (w .2))
+
+-- the statuses stay where the calendar is told
+pub told-status : (n c : ℕ) {s : ℕ} {ys zs : List ℕ} → Told n c s ys zs → (i : ℕ)
+    → loadAt 2 (slotRow n i + 60) zs ≡ loadAt 2 (slotRow n i + 60) ys
+told-status n c T i = T .0 .loads 2 (slotRow n i + 60) (inl (omega arith))

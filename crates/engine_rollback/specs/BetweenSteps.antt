@@ -1,0 +1,25 @@
+-- The bytes between two steps of a call, with what the rules keep (rules/proofs: Cascade, Neat, Functions).
+use mathlib.Core.Path.{_≡_}
+use mathlib.Core.List.{List}
+use Prim.Native.Nat.{ℕ, _+_}
+use Rattle.line.specs.declared.Event.{Event}
+use Rattle.line.specs.Station.{Plan, InRange, States}
+use Rattle.rules.specs.Held.{Queue}
+use Rattle.rules.proofs.Undo.Functions.{runs}
+use Rattle.rules.proofs.Undo.Cascade.{Ok}
+use Rattle.rules.proofs.Replay.Neat.{Neat}
+use Rattle.engine_index.specs.Represents.{Cell}
+use Rattle.engine_events.specs.Represents.{Holds}
+use Rattle.engine_events.specs.Promises.{Becomes}
+
+-- the bytes hold q, which is in order and a replay of the machine with the waiting events ws and the states st
+pub record Mid (p : Plan) (n c now : ℕ) (xs : List ℕ) (q : Queue) (cells : List Cell) (ws : List Event) (st : States) : Type 0 where
+  pub range : InRange p
+  pub holds : Holds p n c now xs q cells
+  pub ok : Ok p ws st q
+  pub neat : Neat p (q .held)
+
+-- the bytes come to hold r, in cells that were among these, and k events are undone on the way
+pub record RollsTo (p : Plan) (n c now k : ℕ) (q : Queue) (ys : List ℕ) (r : Queue) (cells : List Cell) : Type 0 where
+  pub becomes : Becomes p n c now ys r cells
+  pub undone : k + runs (r .held) ≡ runs (q .held)

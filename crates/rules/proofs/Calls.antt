@@ -1,0 +1,10 @@
+pub mod Commit
+pub mod Entries
+pub mod Posts
+pub mod Invariant
+pub mod Step
+pub mod Room
+pub mod Demand3
+pub mod Compute
+pub mod Answered
+pub mod Tests

@@ -1,0 +1,238 @@
+-- Every engine that calls have left answers every call, and in one way; only the station of a run lowest is free among those of the least time.
+use mathlib.Core.Path.{_≡_, refl, sym, ap, _∙_, subst}
+use mathlib.Core.Bool.{Bool, true, false, cond, _&&_, true≢false}
+use mathlib.Core.List.{List, [], _∷_, List·Memᴰ·head, List·Memᴰ·tail}
+use Prim.Native.Nat.{ℕ, suc, _+_, _≤_}
+use native.Mathlib.Omega.{arith}
+use lib.Dec.{eqb}
+use Rattle.refusal.specs.Tests.{Verdict, accepted, refused, judged}
+use Rattle.line.specs.declared.Event.{Event}
+use Rattle.line.specs.declared.Matter.{Matter}
+use Rattle.line.specs.declared.Meant.{Meant}
+use Rattle.line.specs.declared.Meant.the-variants.{Means, Refused as Unsuited}
+use Rattle.line.specs.Event.{posted}
+use Rattle.line.specs.Matter.{matterOf}
+use Rattle.line.specs.Station.{Plan, InRange}
+use Rattle.line.proofs.Order.{Ge, irr, later-time}
+use Rattle.rules.specs.Held.{Held, unrun, ran, event, Queue, In, Found, none, some, leastUnrun, at, timeOf, registered, Lowest, heldPost, noneUnrun, undone}
+use Rattle.rules.specs.Undo.{Does, Remove, Add, AddEach}
+use Rattle.rules.specs.Engine.{Engine, opened, Call, Post, Retract, RunStation, RunLowest, Commit, Record, Answer, Posted, Retracted, Ran}
+use Rattle.rules.specs.Checks.{missing, unsuited, checks}
+use Rattle.rules.specs.Calls.{postOf, with, running, Answers, refuse, post, retract, run, lowest, commit, recorded}
+use Rattle.rules.specs.Demand.{Calls, end, next}
+use Rattle.rules.proofs.Calls.Compute.{Step, settle, postStep, retractStep, runStep, stationStep, lowestOf, commitStep, answerTo, answersTo, leftBy}
+use Rattle.rules.proofs.Undo.Functions as F
+use Rattle.rules.proofs.Undo.Functions.{runs, runLeast}
+use Rattle.rules.proofs.Replay.Replay.{sendsOf, Sorted}
+use Rattle.rules.proofs.Update.{Which, this, other, which}
+use Rattle.rules.proofs.Replay.Mark.{First, first-target, first-held}
+use Rattle.rules.proofs.Replay.RunsLeft.{runs-mark}
+use Rattle.rules.proofs.Replay.Neat.{Neat}
+use Rattle.rules.proofs.Undo.Agree.{does-agree}
+use Rattle.rules.proofs.Undo.Exist.{IsHeld, is-unrun, is-run, can-remove, can-add}
+use Rattle.rules.proofs.Undo.Count.{undos, Suits, undone-undos, undone-run, does-falls}
+use Rattle.rules.proofs.Calls.Invariant.{Inv, opened-inv, least-first, held-neat, post-new}
+use Rattle.rules.proofs.Calls.Step.{call-next, not-holding, post-passed, run-fits, running-neat, can-run, run-queue}
+
+-- ---- an answer for every call
+
+is-held : (y : Held) (h : List Held) → In y h → IsHeld (event y) h
+is-held (unrun x) h m = is-unrun m
+is-held (ran x b) h m = is-run b m
+
+beyond : {x : Event} {y : Held} {h : List Held} → IsHeld x h → IsHeld x (y ∷ h)
+beyond (is-unrun m) = is-unrun (List·Memᴰ·tail m)
+beyond (is-run b m) = is-run b (List·Memᴰ·tail m)
+
+-- a post that is found is held
+post-held : (n : ℕ) (h : List Held) (x : Event) → heldPost n h ≡ some x → IsHeld x h
+unfolding heldPost
+post-held n [] x e = let z : _≡_ {A = ℕ} 0 1 = cc in absurd (omega arith)
+post-held n (y ∷ h) x e = go (eqb (event y .source) posted && eqb (event y .number) n) e (λ k. post-held n h x k)
+  where
+    go : (v : Bool) → cond v (some (event y)) (heldPost n h) ≡ some x → (heldPost n h ≡ some x → IsHeld x h) → IsHeld x (y ∷ h)
+    go true f ih = let q : event y ≡ x = cc in subst (λ z. IsHeld z (y ∷ h)) q (is-held y (y ∷ h) (List·Memᴰ·head refl))
+    go false f ih = beyond (ih f)
+
+-- a registered station has a least unrun event at its time
+registered-some : (h : List Held) (t u : ℕ) → registered h t ≡ at u → (y : Event) × (leastUnrun t h ≡ some y) × (y .time ≡ u)
+unfolding registered timeOf
+registered-some h t u e = go (leastUnrun t h) refl e
+  where
+    go : (l : Found) → leastUnrun t h ≡ l → timeOf l ≡ at u → (y : Event) × (leastUnrun t h ≡ some y) × (y .time ≡ u)
+    go none k f = let z : _≡_ {A = ℕ} 0 1 = cc in absurd (omega arith)
+    go (some y) k f = (y, k, (cc))
+
+-- the first unrun event of all has the least registered time
+lowest-is : (h : List Held) → Sorted h → noneUnrun h ≡ false → Lowest h (lowestOf h)
+unfolding noneUnrun registered leastUnrun timeOf lowestOf
+lowest-is [] o e = absurd (true≢false e)
+lowest-is (unrun x ∷ h) o e = record { time = x .time; is = here (which (x .target) (x .target)); least = later }
+  where
+    here : Which (x .target) (x .target) → registered (unrun x ∷ h) (x .target) ≡ at (x .time)
+    here (this _ t) = rw t
+    here (other n _) = absurd (n refl)
+
+    later : (t u : ℕ) → registered (unrun x ∷ h) t ≡ at u → x .time ≤ u
+    later t u k =
+        let y = registered-some (unrun x ∷ h) t u k in
+        let g : Ge (y .0) x = first-held x (least-first t (unrun x ∷ h) (y .0) (y .1)) (irr x, o .0) in
+        omega (arith, later-time g, y .2)
+lowest-is (ran x b ∷ h) o e = let r = lowest-is h (o .1) e in record { time = r .time; is = r .is; least = r .least }
+
+module _ (p : Plan) (S : InRange p) (e : Engine) (posts : List Event) (gone log : List ℕ) (i : Inv p e posts gone log) where
+  neat : Neat p (e .queue .held)
+  neat = held-neat p S e posts gone log i
+
+  pub first-of : (s : ℕ) (x : Event) → leastUnrun s (e .queue .held) ≡ some x → First (x .target) x (e .queue .held)
+  first-of s x k = let g = least-first s (e .queue .held) x k in subst (λ t. First t x (e .queue .held)) (sym (first-target g)) g
+
+  post-fits : (s t kind value : ℕ) (m : Matter) → judged (checks p e (Post s t kind value)) ≡ accepted → Suits p (Add (postOf (e .next) s t m)) (e .queue)
+  unfolding postOf
+  post-fits s t kind value m j = (post-passed p e s t kind value j .0, post-new p S e posts gone log i (record { time = t; target = s; source = posted; number = e .next; matter = m }) refl refl)
+
+  -- ---- each call, accepted
+
+  abbrev Is : Call → Step → Type 0
+  Is c d = Answers p e c (d .answer) (d .engine)
+
+  settled : (c : Call) (d : Step) → (judged (checks p e c) ≡ accepted → Is c d) → Is c (settle (judged (checks p e c)) e d)
+  unfolding settle
+  settled c d f = go (judged (checks p e c)) refl
+    where
+      go : (v : Verdict) → judged (checks p e c) ≡ v → Is c (settle v e d)
+      go accepted j = f j
+      go (refused n) j = refuse j
+
+  post-is : (s t kind value : ℕ) → judged (checks p e (Post s t kind value)) ≡ accepted
+      → Is (Post s t kind value) (postStep p e s t (matterOf (p .count) kind value))
+  unfolding postStep checks judged
+  post-is s t kind value j = go (matterOf (p .count) kind value) refl
+    where
+      go : (m : Meant) → matterOf (p .count) kind value ≡ m → Is (Post s t kind value) (postStep p e s t m)
+      go (Unsuited r) k = absurd (true≢false (sym (ap unsuited k) ∙ not-holding _ 10 _ (not-holding _ 9 _ j .1) .0))
+      go (Means m) k =
+          let d = can-add p S (e .queue) (i .machine .waiting) (i .machine .states) (i .ok) neat (postOf (e .next) s t m) in
+          let f = post-fits s t kind value m j in
+          post j k (subst (Does p (Add (postOf (e .next) s t m)) (e .queue)) (does-agree p (d .1) neat (f .0) (f .1) .0) (d .1))
+
+  retract-is : (n : ℕ) → judged (checks p e (Retract n)) ≡ accepted → Is (Retract n) (retractStep p e (heldPost n (e .queue .held)))
+  unfolding retractStep checks judged
+  retract-is n j = go (heldPost n (e .queue .held)) refl
+    where
+      go : (l : Found) → heldPost n (e .queue .held) ≡ l → Is (Retract n) (retractStep p e l)
+      go none k = absurd (true≢false (sym (ap missing k) ∙ not-holding _ 13 _ j .0))
+      go (some x) k =
+          let d = can-remove p S (e .queue) (i .machine .waiting) (i .machine .states) (i .ok) neat x (post-held n (e .queue .held) x k) in
+          retract j k (subst (Does p (Remove x) (e .queue)) (does-agree p (d .1) neat .0) (d .1))
+
+  run-is : (s : ℕ) → judged (checks p e (RunStation s)) ≡ accepted → Is (RunStation s) (runStep p e s (leastUnrun s (e .queue .held)))
+  unfolding runStep checks judged
+  run-is s j = go (leastUnrun s (e .queue .held)) refl
+    where
+      go : (l : Found) → leastUnrun s (e .queue .held) ≡ l → Is (RunStation s) (runStep p e s l)
+      go none k = absurd (true≢false (sym (ap missing k) ∙ not-holding _ 14 _ (not-holding _ 9 _ j .1) .0))
+      go (some x) k =
+          let d = can-run p S e posts gone log i x (first-of s x k) in
+          run j k (subst (Does p (AddEach (sendsOf p (e .queue .states (x .target)) x)) (running p (e .queue) x)) (run-queue p S e posts gone log i x (first-of s x k) _ d) d)
+
+  station-is : (s : ℕ) → Is (RunStation s) (stationStep p e s)
+  unfolding stationStep
+  station-is s = settled (RunStation s) (runStep p e s (leastUnrun s (e .queue .held))) (run-is s)
+
+  some-unrun : judged (checks p e RunLowest) ≡ accepted → noneUnrun (e .queue .held) ≡ false
+  unfolding checks judged
+  some-unrun j = not-holding _ 14 _ j .0
+
+  -- every call has an answer, and it is the one that is computed
+  pub answer-is : (c : Call) → Is c (answerTo p e c)
+  unfolding answerTo commitStep
+  answer-is (Post s t kind value) = settled (Post s t kind value) _ (post-is s t kind value)
+  answer-is (Retract n) = settled (Retract n) _ (retract-is n)
+  answer-is (RunStation s) = station-is s
+  answer-is RunLowest = settled RunLowest _ (λ j. lowest (lowest-is (e .queue .held) (i .ok .sorted) (some-unrun j)) (station-is (lowestOf (e .queue .held))))
+  answer-is (Commit c output) = settled (Commit c output) _ (λ j. commit j)
+  answer-is (Record s) = settled (Record s) _ (λ j. recorded j)
+
+  -- the run events where x is run
+  marked-runs : (x : Event) → First (x .target) x (e .queue .held) → runs (running p (e .queue) x .held) ≡ suc (runs (e .queue .held))
+  unfolding running
+  marked-runs x f = runs-mark (e .queue .states (x .target)) f
+
+  -- ---- the literal undone count is the number of undos
+
+  pub post-undone : (s t kind value : ℕ) (m : Matter) (q : Queue) → judged (checks p e (Post s t kind value)) ≡ accepted
+      → (d : Does p (Add (postOf (e .next) s t m)) (e .queue) q) → undone (e .queue .held) (q .held) ≡ undos d
+  post-undone s t kind value m q j d = undone-undos d neat (post-fits s t kind value m j)
+
+  pub retract-undone : (x : Event) (q : Queue) (d : Does p (Remove x) (e .queue) q) → undone (e .queue .held) (q .held) ≡ undos d
+  retract-undone x q d = undone-undos d neat tt
+
+  pub run-undone : (x : Event) (q : Queue) → First (x .target) x (e .queue .held)
+      → (d : Does p (AddEach (sendsOf p (e .queue .states (x .target)) x)) (running p (e .queue) x) q) → undone (e .queue .held) (q .held) ≡ undos d
+  run-undone x q f d =
+      omega (arith, falls, subst (λ r. undone (e .queue .held) (r .held) + runs (r .held) ≡ suc (runs (e .queue .held))) (sym (run-queue p S e posts gone log i x f q d)) (undone-run p S (i .machine .waiting) (i .machine .states) (e .queue) x (i .ok) (neat .strict) f))
+    where
+      falls : suc (runs (e .queue .held)) ≡ undos d + runs (q .held)
+      falls = sym (marked-runs x f) ∙ does-falls d (running-neat p S e posts gone log i x f) (run-fits p S e posts gone log i x f)
+
+-- ---- one answer for every call
+
+differ-verdict : {v : Verdict} {n : ℕ} → v ≡ accepted → v ≡ refused n → ⊥
+differ-verdict a r = let z : _≡_ {A = ℕ} 0 1 = cc in omega arith
+
+module _ (p : Plan) (S : InRange p) where
+  pub one-answer : {e f g : Engine} {c : Call} {a b : Answer} (posts : List Event) (gone log : List ℕ) → Inv p e posts gone log → (c ≡ RunLowest → ⊥)
+      → Answers p e c a f → Answers p e c b g → (a ≡ b) × (f ≡ g)
+  unfolding with
+  one-answer ps gone log i l (refuse j) (refuse k) = ((cc), refl)
+  one-answer ps gone log i l (refuse j) (post k m d) = absurd (differ-verdict k j)
+  one-answer ps gone log i l (refuse j) (retract k m d) = absurd (differ-verdict k j)
+  one-answer ps gone log i l (refuse j) (run k m d) = absurd (differ-verdict k j)
+  one-answer ps gone log i l (refuse j) (lowest k d) = absurd (l refl)
+  one-answer ps gone log i l (refuse j) (commit k) = absurd (differ-verdict k j)
+  one-answer ps gone log i l (refuse j) (recorded k) = absurd (differ-verdict k j)
+  one-answer ps gone log i l (post j m d) (refuse k) = absurd (differ-verdict j k)
+  one-answer ps gone log i l (post {e = e} {s = s} {t = t} {kind = kind} {value = value} {m = x} {q = q} j m d) (post {m = y} {q = r} k n c) =
+      let u =
+      does-agree p d (held-neat p S e ps gone log i) (post-fits p S e ps gone log i s t kind value x j .0)
+      (post-fits p S e ps gone log i s t kind value x j .1) .0 in
+      let v =
+      does-agree p c (held-neat p S e ps gone log i) (post-fits p S e ps gone log i s t kind value y k .0)
+      (post-fits p S e ps gone log i s t kind value y k .1) .0 in
+      let w : x ≡ y = cc in
+      let z : q ≡ r = u ∙ ap (λ h. F.add p (e .queue) (postOf (e .next) s t h)) w ∙ sym v in
+      (ap (λ h. Posted (e .next) (undone (e .queue .held) (h .held))) z, ap (λ h. record { capacity = e .capacity; next = suc (e .next); now = e .now; queue = h }) z)
+  one-answer ps gone log i l (retract j m d) (refuse k) = absurd (differ-verdict j k)
+  one-answer ps gone log i l (retract {e = e} {x = x} {q = q} j m d) (retract {x = y} {q = r} k n c) =
+      let w : x ≡ y = cc in
+      let z : q ≡ r =
+      does-agree p d (held-neat p S e ps gone log i) .0 ∙ ap (F.remove p (e .queue)) w
+      ∙ sym (does-agree p c (held-neat p S e ps gone log i) .0) in
+      (ap (λ h. Retracted (undone (e .queue .held) (h .held))) z, ap (with e) z)
+  one-answer ps gone log i l (run j m d) (refuse k) = absurd (differ-verdict j k)
+  one-answer ps gone log i l (run {e = e} {s = s} {x = x} {q = q} j m d) (run {x = y} {q = r} k n c) =
+      let w : x ≡ y = cc in
+      let z : q ≡ r =
+      run-queue p S e ps gone log i x (first-of p S e ps gone log i s x m) q d ∙ ap (runLeast p (e .queue)) w
+      ∙ sym (run-queue p S e ps gone log i y (first-of p S e ps gone log i s y n) r c) in
+      (ap (λ h. Ran s (undone (e .queue .held) (h .held))) z, ap (with e) z)
+  one-answer ps gone log i l (lowest j d) k = absurd (l refl)
+  one-answer ps gone log i l (commit j) (refuse k) = absurd (differ-verdict j k)
+  one-answer ps gone log i l (commit j) (commit k) = (refl, refl)
+  one-answer ps gone log i l (recorded j) (refuse k) = absurd (differ-verdict j k)
+  one-answer ps gone log i l (recorded j) (recorded k) = (refl, refl)
+
+-- ---- lists of calls
+
+module _ (p : Plan) (S : InRange p) where
+  pub answers-are : (cs : List Call) (e : Engine) (posts : List Event) (gone log : List ℕ) → Inv p e posts gone log
+      → Calls p e (answersTo p e cs) (leftBy p e cs)
+  unfolding answersTo leftBy
+  answers-are [] e ps gone log i = end
+  answers-are (c ∷ cs) e ps gone log i =
+      let d = answer-is p S e ps gone log i c in
+      next d (answers-are cs (answerTo p e c .engine) _ _ _ (call-next p S ps gone log d i .inv))
+
+  pub opened-answers : (capacity : ℕ) (cs : List Call) → Calls p (opened p capacity) (answersTo p (opened p capacity) cs) (leftBy p (opened p capacity) cs)
+  opened-answers capacity cs = answers-are cs (opened p capacity) [] [] [] (opened-inv p capacity)

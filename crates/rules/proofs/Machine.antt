@@ -1,0 +1,5 @@
+pub mod Insert
+pub mod Sorted
+pub mod Feed
+pub mod Halts
+pub mod Plain

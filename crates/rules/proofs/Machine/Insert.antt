@@ -1,0 +1,106 @@
+-- Sorted insertion: insertions of different events commute, and the head of a list is the least of it.
+use mathlib.Core.Path.{_≡_, refl, sym, ap, _∙_, subst}
+use mathlib.Core.Bool.{cond}
+use mathlib.Core.List.{List, [], _∷_}
+use Rattle.line.specs.declared.Event.{Event}
+use Rattle.line.specs.Event.{before}
+use Rattle.line.proofs.Order.{Lt, Ge, Cmp, less, notLess, cmp, Differ, fst, snd, asym, tr, irr, clash}
+use Rattle.line.proofs.All.{All}
+
+-- an event put into a list in order
+unfoldable pub insert : Event → List Event → List Event
+insert x [] = x ∷ []
+insert x (y ∷ ys) = cond (before y x) (y ∷ insert x ys) (x ∷ y ∷ ys)
+
+unfoldable pub insertAll : List Event → List Event → List Event
+insertAll [] ws = ws
+insertAll (x ∷ xs) ws = insert x (insertAll xs ws)
+
+pub insert-lt : {x y : Event} (ys : List Event) → Lt y x → insert x (y ∷ ys) ≡ y ∷ insert x ys
+unfolding insert
+insert-lt ys h = rw (h .is)
+
+pub insert-ge : {x y : Event} (ys : List Event) → Ge y x → insert x (y ∷ ys) ≡ x ∷ y ∷ ys
+unfolding insert
+insert-ge ys h = rw (h .is)
+
+pub insert-nil : (x : Event) → insert x [] ≡ x ∷ []
+unfolding insert
+insert-nil x = refl
+
+comm-lt : (a b : Event) (ws : List Event) → Lt a b → insert a (insert b ws) ≡ insert b (insert a ws)
+comm-lt a b [] h =
+    ap (insert a) (insert-nil b) ∙ insert-ge [] (asym h) ∙ ap (λ l. a ∷ l) (sym (insert-nil b)) ∙ sym (insert-lt [] h)
+    ∙ ap (insert b) (sym (insert-nil a))
+comm-lt a b (w ∷ ws) h = go (cmp w a) (cmp w b) (comm-lt a b ws h)
+  where
+    go : Cmp w a → Cmp w b → insert a (insert b ws) ≡ insert b (insert a ws) → insert a (insert b (w ∷ ws)) ≡ insert b (insert a (w ∷ ws))
+    go (less p) (less q) ih =
+        ap (insert a) (insert-lt ws q) ∙ insert-lt (insert b ws) p ∙ ap (λ l. w ∷ l) ih ∙ sym (insert-lt (insert a ws) q) ∙ ap (insert b) (sym (insert-lt ws p))
+    go (less p) (notLess q) ih = absurd (clash (tr p h) q)
+    go (notLess p) (less q) ih =
+        ap (insert a) (insert-lt ws q) ∙ insert-ge (insert b ws) p ∙ ap (λ l. a ∷ l) (sym (insert-lt ws q)) ∙ sym (insert-lt (w ∷ ws) h) ∙ ap (insert b) (sym (insert-ge ws p))
+    go (notLess p) (notLess q) ih =
+        ap (insert a) (insert-ge ws q) ∙ insert-ge (w ∷ ws) (asym h) ∙ ap (λ l. a ∷ l) (sym (insert-ge ws q)) ∙ sym (insert-lt (w ∷ ws) h) ∙ ap (insert b) (sym (insert-ge ws p))
+
+pub insert-comm : {a b : Event} (ws : List Event) → Differ a b → insert a (insert b ws) ≡ insert b (insert a ws)
+insert-comm {a} {b} ws (fst h) = comm-lt a b ws h
+insert-comm {a} {b} ws (snd h) = sym (comm-lt b a ws h)
+
+pub insertAll-nil : (ws : List Event) → insertAll [] ws ≡ ws
+unfolding insertAll
+insertAll-nil ws = refl
+
+pub insert-all : (a : Event) (xs ws : List Event) → All (Differ a) xs → insert a (insertAll xs ws) ≡ insertAll xs (insert a ws)
+unfolding insertAll
+insert-all a [] ws d = refl
+insert-all a (x ∷ xs) ws d = insert-comm (insertAll xs ws) (d .0) ∙ ap (insert x) (insert-all a xs ws (d .1))
+
+-- every event of the one list differs from every event of the other
+abbrev pub Disjoint : List Event → List Event → Type 0
+Disjoint xs ys = All (λ x. All (Differ x) ys) xs
+
+pub all-all : (xs ys ws : List Event) → Disjoint xs ys → insertAll xs (insertAll ys ws) ≡ insertAll ys (insertAll xs ws)
+unfolding insertAll
+all-all [] ys ws d = refl
+all-all (x ∷ xs) ys ws d = ap (insert x) (all-all xs ys ws (d .1)) ∙ insert-all x ys (insertAll xs ws) (d .0)
+
+pub all-head : (w : Event) (xs ws : List Event) → All (Lt w) xs → insertAll xs (w ∷ ws) ≡ w ∷ insertAll xs ws
+unfolding insertAll
+all-head w [] ws d = refl
+all-head w (x ∷ xs) ws d = ap (insert x) (all-head w xs ws (d .1)) ∙ insert-lt (insertAll xs ws) (d .0)
+
+-- where x stands in `insert x ws`: in front, or after the head
+pub data Where (x : Event) (ws : List Event) : Type 0 where
+  front : insert x ws ≡ x ∷ ws → Where x ws
+  back : (w : Event) (vs : List Event) → ws ≡ w ∷ vs → Lt w x → insert x ws ≡ w ∷ insert x vs → Where x ws
+
+pub insert-where : (x : Event) (ws : List Event) → Where x ws
+insert-where x [] = front (insert-nil x)
+insert-where x (w ∷ ws) = go (cmp w x)
+  where
+    go : Cmp w x → Where x (w ∷ ws)
+    go (less h) = back w ws refl h (insert-lt ws h)
+    go (notLess h) = front (insert-ge ws h)
+
+-- the head of a list with x inserted, where the head is before x, is the head of the list
+pub record Uncons (ws : List Event) (w : Event) (xs vs : List Event) : Type 0 where
+  pub rest : List Event
+  pub whole : ws ≡ w ∷ rest
+  pub tail : vs ≡ insertAll xs rest
+
+uncons-one : (x w : Event) (ws vs : List Event) → insert x ws ≡ w ∷ vs → Lt w x → (r : List Event) × (ws ≡ w ∷ r) × (vs ≡ insert x r)
+uncons-one x w ws vs e h = go (insert-where x ws)
+  where
+    go : Where x ws → (r : List Event) × (ws ≡ w ∷ r) × (vs ≡ insert x r)
+    go (front f) = let q : x ≡ w = cc in absurd (clash h (subst (λ v. Ge w v) (sym q) (irr w)))
+    go (back w′ r k l f) = let q : w′ ≡ w = cc in (r, (cc), (cc))
+
+pub uncons : (xs : List Event) (w : Event) (ws vs : List Event) → insertAll xs ws ≡ w ∷ vs → All (Lt w) xs → Uncons ws w xs vs
+unfolding insertAll
+uncons [] w ws vs e h = record { rest = vs; whole = e; tail = refl }
+uncons (x ∷ xs) w ws vs e h = go (uncons-one x w (insertAll xs ws) vs e (h .0)) (λ u k. uncons xs w ws u k (h .1))
+  where
+    go : (r : List Event) × (insertAll xs ws ≡ w ∷ r) × (vs ≡ insert x r) → ((u : List Event) → insertAll xs ws ≡ w ∷ u → Uncons ws w xs u)
+        → Uncons ws w (x ∷ xs) vs
+    go t f = let u = f (t .0) (t .1) in record { rest = u .rest; whole = u .whole; tail = t .2 ∙ ap (insert x) (u .tail) }
