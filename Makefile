@@ -1,25 +1,34 @@
 # The gate is `sh .ci/run`. This file has what is run by hand.
 
-.PHONY: library example fuzz benchmark benchmark-calendar
+.PHONY: library example test fuzz benchmark benchmark-calendar
 
 CASES ?= 2000
 SEED ?= 1
 ROUNDS ?=
 CARGO = cargo --offline
+LIBRARY = target/staticlib/libexports.a
 
-# The proved calls as a library for Rust.
-library:
+# The proved calls as a library for Rust; proved again only where a crate has changed.
+library: $(LIBRARY)
+
+$(LIBRARY): crates.txt $(shell find crates -name '*.rt' -o -name '*.antt')
 	rt staticlib exports
+	touch $@
 
 # An hour of a small line.
 example: library
 	cd rust && $(CARGO) run --release --example line
 
+# That hour against the plain machine.
+test: library
+	cd rust && $(CARGO) test
+
 # The engine against a simple one, call by call, and on damaged buffers.
 fuzz: library
 	cd rust && $(CARGO) run --release --bin fuzz -- $(CASES) $(SEED)
 
-# The engine against a plain machine on std's BinaryHeap, in one run; ROUNDS=9 by default. With Debian's libns3-dev and python3-simpy also against these.
+# The engine against a plain machine on std's BinaryHeap, in one run; ROUNDS=9 by default. With Debian's libns3-dev and
+# python3-simpy also against these.
 benchmark: library
 	if [ -e /usr/include/ns3/core-module.h ]; then g++ -O2 -std=c++17 benchmarks/line_ns3.cc -lns3-core -o target/benchmark-ns3; fi
 	cd rust && $(CARGO) run --release --bin benchmark -- $(ROUNDS)

@@ -1,23 +1,23 @@
 //! A line of three stations for an hour: how many frames arrive at the collector.
-use jambfennel::{Config, Engine, Matter, Plan, Refusal, Station};
+use jambfennel::{Config, Engine, Entry, Matter, Plan, Refusal, State, Station};
 
-fn main() -> Result<(), Refusal> {
+/// What is posted: the station, the time and the matter. The water rises after half an hour.
+pub const POSTS: [(u64, u64, Matter); 3] = [(1, 0, Matter::Reading), (2, 0, Matter::Reading), (2, 1_800_000, Matter::Level(6_000))];
+
+pub fn stations() -> [Station; 3] {
     let numbers = |parent, seed| Config { parent, calm: 300_000, spring: 60_000, threshold: 5_000, hop: 250, noise: 107_374_182, seed };
-    let stations = [
-        Station::new(numbers(0, 1), b"collector"),
-        Station::new(numbers(0, 2), b"crest"),
-        Station::new(numbers(1, 3), b"toe"),
-    ];
-    let mut bytes = [0; Plan::bytes_for(3)];
-    let plan = Plan::write(&stations, &mut bytes)?;
-    let mut buffer = vec![0; Engine::bytes(3, 64)];
-    let mut engine = Engine::open(&plan, 64, 64, &mut buffer)?;
-    engine.post(1, 0, Matter::Reading)?;
-    engine.post(2, 0, Matter::Reading)?;
-    // the water rises after half an hour
-    engine.post(2, 1_800_000, Matter::Level(6_000))?;
+    [Station::new(numbers(0, 1), b"collector"), Station::new(numbers(0, 2), b"crest"), Station::new(numbers(1, 3), b"toe")]
+}
+
+/// The line's hour, minute by minute: its log, and the stations' states at its end.
+pub fn hour(plan: &Plan) -> Result<(Vec<Entry>, Vec<State>), Refusal> {
+    let mut buffer = vec![0; Engine::bytes(plan.count(), 64)];
+    let mut engine = Engine::open(plan, 64, 64, &mut buffer)?;
+    for (station, time, matter) in POSTS {
+        engine.post(station, time, matter)?;
+    }
     let mut output = [0; 64 * 24];
-    let mut events = 0;
+    let mut entries = vec![];
     for minute in 1..=60 {
         // run until all before the minute has run
         let log = loop {
@@ -27,12 +27,20 @@ fn main() -> Result<(), Refusal> {
                 Err(refusal) => return Err(refusal),
             };
         };
-        events += log.len();
+        entries.extend(log);
     }
-    for station in 0..plan.count() as u64 {
-        let record = engine.record(station)?;
-        println!("{}: {} heard, {} lost, {} sent", String::from_utf8_lossy(plan.name(station)?), record.heard, record.lost, record.sent);
+    let states = (0..plan.count() as u64).map(|station| engine.record(station)).collect::<Result<_, _>>()?;
+    Ok((entries, states))
+}
+
+#[allow(dead_code)]
+fn main() -> Result<(), Refusal> {
+    let mut bytes = [0; Plan::bytes_for(3)];
+    let plan = Plan::write(&stations(), &mut bytes)?;
+    let (entries, states) = hour(&plan)?;
+    for (station, state) in (0..).zip(states) {
+        println!("{}: {} heard, {} lost, {} sent", String::from_utf8_lossy(plan.name(station)?), state.heard, state.lost, state.sent);
     }
-    println!("{events} events");
+    println!("{} events", entries.len());
     Ok(())
 }

@@ -94,14 +94,14 @@ pub fn read_plan(bytes: &[u8]) -> Result<Vec<(Config, Vec<u8>)>, Wrong> {
         return Err((1, None));
     }
     let n = half(0) as usize;
-    if n < 1 || n > 256 || bytes.len() < 2 + 8 * n {
+    if !(1..=256).contains(&n) || bytes.len() < 2 + 8 * n {
         return Err((1, None));
     }
     let mut begin = 2 + 8 * n;
     let mut records = vec![];
     for s in 0..n {
         let (offset, len) = (word(2 + 8 * s) as usize, word(6 + 8 * s) as usize);
-        if offset != begin || len < 26 || len > 42 || offset + len > bytes.len() {
+        if offset != begin || !(26..=42).contains(&len) || offset + len > bytes.len() {
             return Err((2, Some(s as u64)));
         }
         records.push((offset, len));

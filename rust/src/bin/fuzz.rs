@@ -184,7 +184,11 @@ fn damage(seed: u64) -> u64 {
             2 => engine.run_station(number).is_err(),
             3 => engine.run_lowest().is_err(),
             4 => engine.commit(number, &mut output).is_err(),
-            _ => engine.record(number).is_err() || true,
+            // a record changes nothing, whatever it answers
+            _ => {
+                let _ = engine.record(number);
+                true
+            }
         };
         if refused {
             assert!(before == all && output == kept, "case {seed}: a refused call on damaged bytes changed some");

@@ -1,0 +1,38 @@
+//! The example's hour against the plain machine of `reference`, event by event, and the stations' states at its end.
+use jambfennel::{Entry, Matter, Plan, State};
+
+#[path = "../examples/line.rs"]
+mod line;
+#[path = "../reference/mod.rs"]
+mod reference;
+
+#[test]
+fn an_hour_is_the_plain_machines() {
+    let mut bytes = [0; Plan::bytes_for(3)];
+    let plan = Plan::write(&line::stations(), &mut bytes).unwrap();
+    let (entries, states) = line::hour(&plan).unwrap();
+
+    let configs: Vec<_> = reference::read_plan(plan.bytes()).unwrap().into_iter().map(|(config, _)| config).collect();
+    let mut machine = reference::Machine::new(&configs);
+    for (number, (station, time, matter)) in (0..).zip(line::POSTS) {
+        let matter = match matter {
+            Matter::Reading => (1, 0),
+            Matter::Frame(origin) => (2, origin.into()),
+            Matter::Level(mm) => (3, mm.into()),
+        };
+        machine.post((time, station, 65_535, number), matter);
+    }
+    let mut expected = vec![];
+    machine.run(3_600_000, |key, matter| expected.push(Entry::of(&reference::entry(key, matter))));
+
+    assert_eq!(entries, expected);
+    let as_state = |s: &reference::State| State {
+        draw: s.draw as u32,
+        level: s.level as u32,
+        heard: s.heard as u32,
+        lost: s.lost as u32,
+        sent: s.sent as u32,
+    };
+    assert_eq!(states, machine.states.iter().map(as_state).collect::<Vec<_>>());
+    assert!(states[0].heard > 0 && states[0].lost + states[1].lost > 0);
+}
