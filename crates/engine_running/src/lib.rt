@@ -75,7 +75,7 @@ fn run_at(b: &mut [u8], n: u16, c: u16, s: u16) -> RunAnswer
         return RunAnswer::Refused(Refusal::Idle);
     }
     let e = engine_rows::event(b, n, i);
-    let Ran::Done(effect) = line::run_event(
+    let Ran::Done(effect) = line_running::run_event(
         engine_rows::config(b, n, s),
         engine_rows::state(b, n, s),
         e,

@@ -2,4 +2,3 @@ pub mod All
 pub mod Order
 pub mod Fits
 pub mod Sends
-pub mod Answers

@@ -170,7 +170,7 @@ fn step(m: Machine) -> Machine {
         return m;
     }
     let mut states = m.states;
-    let Ran::Done(effect) = line::run_event(config(), states[target], e) else {
+    let Ran::Done(effect) = line_running::run_event(config(), states[target], e) else {
         return m;
     };
     print(e);

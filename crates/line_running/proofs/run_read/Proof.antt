@@ -1,12 +1,12 @@
 -- Each send is one send of the state before it, and the two effects together are those of the second send on top of the first.
 use mathlib.Core.Path.{sym, _∙_, ap}
 use borrow.Author.Tests.{ne-eqb, eq-eqb}
 use Rattle.line.specs.Station.{runRead}
 use Rattle.line.specs.Answer.{said}
-use Rattle.line.proofs.Answers.{ahead, single, stays, chain}
+use Rattle.line_running.proofs.Answers.{ahead, single, stays, chain}
 use borrow.Author.Needs.{needs}
-use Rattle.line.proofs.run_read.Statement.{statement}
-use Rattle.line.proofs.run_read.Tie as tie
+use Rattle.line_running.proofs.run_read.Statement.{statement}
+use Rattle.line_running.proofs.run_read.Tie as tie
 
 returns : tie.Need-returns
 unfolding runRead

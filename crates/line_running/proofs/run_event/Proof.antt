@@ -1,8 +1,8 @@
 -- The event's matter picks the definition's case.
 use Rattle.line.specs.Station.{runAt, runMatter, runLevel}
 use borrow.Author.Needs.{needs}
-use Rattle.line.proofs.run_event.Statement.{statement}
-use Rattle.line.proofs.run_event.Tie as tie
+use Rattle.line_running.proofs.run_event.Statement.{statement}
+use Rattle.line_running.proofs.run_event.Tie as tie
 
 returns : tie.Need-returns
 unfolding runAt runMatter

@@ -2,11 +2,11 @@
 use mathlib.Core.Path.{sym}
 use native.Mathlib.Omega.{arith}
 use native.Mathlib.Numerals.{add-one}
 use Rattle.line.specs.Station.{silent}
-use Rattle.line.proofs.Answers.{kept, passed, late, timely}
+use Rattle.line_running.proofs.Answers.{kept, passed, late, timely}
 use borrow.Author.Needs.{needs}
-use Rattle.line.proofs.send.Statement.{statement}
-use Rattle.line.proofs.send.Tie as tie
+use Rattle.line_running.proofs.send.Statement.{statement}
+use Rattle.line_running.proofs.send.Tie as tie
 
 returns : tie.Need-returns
 returns c = (late _ _ _ _ _ (omega arith) (c .silent .ensures .0), c .silent .ensures .1)

@@ -1,10 +1,10 @@
 -- The new draw is the definition's, and so is its comparison with the noise limit.
 use native.Mathlib.Omega.{arith}
 use borrow.Author.Tests.{le-leb, lt-leb}
 use Rattle.line.specs.Station.{runFrame}
 use borrow.Author.Needs.{needs}
-use Rattle.line.proofs.run_frame.Statement.{statement}
-use Rattle.line.proofs.run_frame.Tie as tie
+use Rattle.line_running.proofs.run_frame.Statement.{statement}
+use Rattle.line_running.proofs.run_frame.Tie as tie
 
 returns : tie.Need-returns
 unfolding runFrame

@@ -1,11 +1,11 @@
 -- The state that is made is the definition's, and a count of lost frames that passes stays so under the send.
 use native.Mathlib.Omega.{arith}
 use native.Mathlib.Numerals.{add-one}
 use Rattle.line.specs.Station.{silent, drawnState, lose}
-use Rattle.line.proofs.Answers.{passed, stays}
+use Rattle.line_running.proofs.Answers.{passed, stays}
 use borrow.Author.Needs.{needs}
-use Rattle.line.proofs.run_lost.Statement.{statement}
-use Rattle.line.proofs.run_lost.Tie as tie
+use Rattle.line_running.proofs.run_lost.Statement.{statement}
+use Rattle.line_running.proofs.run_lost.Tie as tie
 
 returns : tie.Need-returns
 unfolding silent drawnState lose

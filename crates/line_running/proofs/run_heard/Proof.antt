@@ -2,11 +2,11 @@
 use native.Mathlib.Omega.{arith}
 use native.Mathlib.Numerals.{add-one}
 use borrow.Author.Tests.{ne-eqb, eq-eqb}
 use Rattle.line.specs.Station.{silent, drawnState, hear, pass}
-use Rattle.line.proofs.Answers.{passed, pass-stays}
+use Rattle.line_running.proofs.Answers.{passed, pass-stays}
 use borrow.Author.Needs.{needs}
-use Rattle.line.proofs.run_heard.Statement.{statement}
-use Rattle.line.proofs.run_heard.Tie as tie
+use Rattle.line_running.proofs.run_heard.Statement.{statement}
+use Rattle.line_running.proofs.run_heard.Tie as tie
 
 returns : tie.Need-returns
 unfolding silent drawnState hear

@@ -1,9 +1,9 @@
 -- The level is compared with the threshold as the definition does.
 use native.Mathlib.Omega.{arith}
 use borrow.Author.Tests.{le-leb, lt-leb}
 use Rattle.line.specs.Station.{period}
-use Rattle.line.proofs.period.Statement.{statement}
-use Rattle.line.proofs.period.Tie as tie
+use Rattle.line_running.proofs.period.Statement.{statement}
+use Rattle.line_running.proofs.period.Tie as tie
 
 returns : tie.Need-returns
 unfolding period
