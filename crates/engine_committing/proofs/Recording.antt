@@ -16,7 +16,7 @@ use Rattle.rules.specs.Checks.{checks}
 use Rattle.rules.specs.Calls.{refuse, recorded}
 use Rattle.rings.specs.Table.{nextOf}
 use Rattle.engine_rows.specs.Layout.{stationRow, slotRow}
-use Rattle.engine_rows.specs.Records.{stateAt}
+use Rattle.engine_records.specs.Records.{stateAt}
 use Rattle.engine_index.specs.Layout.{linksAt, slotOf}
 use Rattle.engine_index.specs.Represents.{Cell, cell, ringOf, Stands, NoneIn}
 use Rattle.engine_index.proofs.Rings.RingEnds.{first-in, next-none}

@@ -13,8 +13,8 @@ use Rattle.rules.specs.Entry.{entry, entries}
 use Rattle.rules.proofs.Calls.Entries.{entries-length, entries-append, entries-first}
 use Rattle.rings.specs.Table.{nextOf}
 use Rattle.engine_rows.specs.Layout.{slotRow}
-use Rattle.engine_rows.specs.Records.{eventAt, putEvent, entryOf}
-use Rattle.engine_rows.proofs.Entry.{event-parts}
+use Rattle.engine_records.specs.Records.{eventAt, putEvent, entryOf}
+use Rattle.engine_records.proofs.Entry.{event-parts}
 use Rattle.engine_index.specs.Layout.{slotOf, logAt, IsSlot}
 use Rattle.engine_index.specs.Represents.{Cell, cell, hasRun, Stands}
 use Rattle.engine_index.proofs.Rings.RingEnds.{first-logged}

@@ -9,7 +9,7 @@ use Rattle.line.specs.Station.{Plan, runEvent}
 use Rattle.rules.specs.Held.{Queue}
 use Rattle.rings.specs.Table.{Outside, Frame}
 use Rattle.engine_rows.specs.Layout.{stationRow, slotRow}
-use Rattle.engine_rows.specs.Records.{stateAt, storedConfig}
+use Rattle.engine_records.specs.Records.{stateAt, storedConfig}
 use Rattle.engine_index.specs.Layout.{slotOf}
 use Rattle.engine_index.specs.Represents.{Cell}
 use Rattle.engine_index.proofs.Slots.OtherBytes.{stands-elsewhere}

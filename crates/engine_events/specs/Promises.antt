@@ -17,7 +17,7 @@ use Rattle.rules.specs.Engine.{opened}
 use Rattle.rules.specs.Undo.{NoneLater}
 use Rattle.rings.specs.Table.{Frame}
 use Rattle.engine_rows.specs.Layout.{stationRow}
-use Rattle.engine_rows.specs.Records.{EventFits, StateFits, stateAt, storedConfig}
+use Rattle.engine_records.specs.Records.{EventFits, StateFits, stateAt, storedConfig}
 use Rattle.engine_index.specs.Represents.{Cell, cell}
 use Rattle.engine_events.specs.Represents.{fitsIn, heldOf, Has, From, nonzero, Nodes, Stores, Untold, Holds}
 

@@ -14,7 +14,7 @@ use Rattle.line.specs.declared.State.{State}
 use Rattle.line.specs.Station.{Plan, runEvent}
 use Rattle.rules.specs.Held.{Held, ran, event, In, Queue, registered}
 use Rattle.engine_rows.specs.Layout.{stationRow, slotRow}
-use Rattle.engine_rows.specs.Records.{stateAt, storedConfig}
+use Rattle.engine_records.specs.Records.{stateAt, storedConfig}
 use Rattle.calendar.specs.Bytes.{Sound, stateOf}
 use Rattle.engine_events.specs.Shows.{asTime, Inside, Shows}
 use Rattle.engine_index.specs.Layout.{slotOf}

@@ -8,7 +8,7 @@ ghost use Prim.Native.Nat.{_+_};
 ghost use lib.ListN.{length};
 ghost use Rattle.words.specs.Le.{loadAt};
 ghost use Rattle.engine_rows.specs.Layout.{slotRow};
-ghost use Rattle.engine_rows.specs.Records.{eventAt, stateAt};
+ghost use Rattle.engine_records.specs.Records.{eventAt, stateAt};
 ghost use Rattle.engine_index.specs.Layout.{slotOf};
 ghost use Rattle.engine_events.specs.Represents.{fitsIn};
 ghost use Rattle.engine_events.specs.Promises.{Finds};

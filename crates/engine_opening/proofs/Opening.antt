@@ -18,7 +18,7 @@ use Rattle.plan_format.specs.Plan.{count, stationAt}
 use Rattle.plan_format.specs.Reading.{judging}
 use Rattle.plan_format.proofs.Accepted.{Accepted, accepted, accepted-in-range}
 use Rattle.engine_rows.specs.Layout.{stationRow}
-use Rattle.engine_rows.specs.Records.{stateAt, storedConfig}
+use Rattle.engine_records.specs.Records.{stateAt, storedConfig}
 use Rattle.engine_rows.proofs.Rows.{word-in, config-in, state-in, header-station, row-other}
 use Rattle.engine_events.specs.Represents.{Holds}
 use Rattle.engine_events.specs.Promises.{AfterHeader, ClearsEvents}

@@ -5,7 +5,7 @@ use Prim.Native.Nat.{ℕ, _+_, _≤_, _<_}
 use lib.ListN.{length}
 use Rattle.line.specs.Station.{initial}
 use Rattle.engine_rows.specs.Layout.{stationRow, slotRow}
-use Rattle.engine_rows.specs.Records.{stateAt, storedConfig}
+use Rattle.engine_records.specs.Records.{stateAt, storedConfig}
 use Rattle.engine_promises.specs.Represents.{lineOf}
 
 -- stations 0 to n - 1 have the plan's numbers and their first states

@@ -30,7 +30,7 @@ use Rattle.rules.proofs.Undo.Agree.{does-agree}
 use Rattle.rules.proofs.Undo.Exist.{can-add}
 use Rattle.rules.proofs.Undo.Count.{undone-undos, does-falls}
 use Rattle.rules.proofs.Calls.Invariant.{post-new}
-use Rattle.engine_rows.specs.Records.{EventFits}
+use Rattle.engine_records.specs.Records.{EventFits}
 use Rattle.engine_index.specs.Represents.{cell}
 use Rattle.engine_events.specs.Promises.{AfterHeader}
 use Rattle.engine_rollback.specs.BetweenSteps.{RollsTo}

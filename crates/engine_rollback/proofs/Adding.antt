@@ -22,7 +22,7 @@ use Rattle.rules.proofs.Replay.Neat.{in-run}
 use Rattle.rules.proofs.Undo.Agree.{clear-none, does-agree, does-each}
 use Rattle.rules.proofs.Undo.Exist.{can, CanUndoLater}
 use Rattle.rules.proofs.Calls.Room.{does-length}
-use Rattle.engine_rows.specs.Records.{EventFits}
+use Rattle.engine_records.specs.Records.{EventFits}
 use Rattle.engine_index.specs.Represents.{Cell, cell}
 use Rattle.engine_events.specs.Represents.{From, heldOf}
 use Rattle.engine_events.specs.Promises.{Becomes, New, HoldsEvent}

@@ -11,7 +11,7 @@ use Rattle.line.specs.Station.{Plan, States}
 use Rattle.rules.specs.Held.{Held, ran, event, Queue}
 use Rattle.rules.proofs.Machine.Insert.{insert}
 use Rattle.engine_rows.specs.Layout.{slotRow}
-use Rattle.engine_rows.specs.Records.{eventAt}
+use Rattle.engine_records.specs.Records.{eventAt}
 use Rattle.engine_index.specs.Layout.{slotOf}
 use Rattle.engine_index.specs.Represents.{Cell, cell}
 use Rattle.engine_events.specs.Represents.{Has}

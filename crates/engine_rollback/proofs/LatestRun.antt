@@ -15,7 +15,7 @@ use Rattle.rules.proofs.Replay.Replay.{NoRun}
 use Rattle.rules.proofs.Replay.Neat.{in-run}
 use Rattle.rings.specs.Table.{prevOf}
 use Rattle.engine_rows.specs.Layout.{slotRow}
-use Rattle.engine_rows.specs.Records.{eventAt}
+use Rattle.engine_records.specs.Records.{eventAt}
 use Rattle.engine_index.specs.Layout.{linksAt, slotOf}
 use Rattle.engine_index.specs.Represents.{Cell, cell, ringOf, HeldAt, Stored, AllAfter, Sorted, Stands, NoneIn}
 use Rattle.engine_index.proofs.Rings.RingEnds.{last-in, prev-none}

@@ -19,7 +19,7 @@ use Rattle.rules.proofs.Replay.Neat.{in-run, run-in, is-latest}
 use Rattle.rules.proofs.Undo.Agree.{clear-none, latest-found}
 use Rattle.rings.specs.Table.{prevOf}
 use Rattle.engine_rows.specs.Layout.{slotRow}
-use Rattle.engine_rows.specs.Records.{eventAt}
+use Rattle.engine_records.specs.Records.{eventAt}
 use Rattle.engine_index.specs.Layout.{linksAt, slotOf}
 use Rattle.engine_index.specs.Represents.{Cell, cell}
 use Rattle.engine_events.specs.Represents.{Has, From, heldOf}

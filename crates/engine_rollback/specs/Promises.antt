@@ -12,7 +12,7 @@ use Rattle.rules.specs.Undo.{NoneLater}
 use Rattle.rules.proofs.Undo.Functions.{undoFrom, undoEvent, remove, add}
 use Rattle.rules.proofs.Machine.Insert.{insert}
 use Rattle.rules.proofs.Replay.Replay.{Fresh, Clear}
-use Rattle.engine_rows.specs.Records.{EventFits}
+use Rattle.engine_records.specs.Records.{EventFits}
 use Rattle.engine_index.specs.Represents.{Cell, cell}
 use Rattle.engine_events.specs.Represents.{Has}
 use Rattle.engine_events.specs.Promises.{New}

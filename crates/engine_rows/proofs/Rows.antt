@@ -6,7 +6,7 @@ use Prim.Native.Nat.{ℕ, _+_, _*_, _≤_, _<_}
 use native.Mathlib.Omega.{arith}
 use Rattle.words.proofs.Laws.{Apart}
 use Rattle.engine_rows.specs.Layout.{stationRow, slotRow}
-use Rattle.engine_rows.proofs.Cells.{Cell, number, state, config, place, width, Value, read, write, Beside, beside, read-beside}
+use Rattle.engine_records.proofs.Cells.{Cell, number, state, config, place, width, Value, read, write, Beside, beside, read-beside}
 
 -- ---- cells
 

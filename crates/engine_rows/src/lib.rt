@@ -9,11 +9,10 @@ ghost use mathlib.Core.Path.{_≡_};
 ghost use Prim.Native.Nat.{_+_, _*_, _≤_, _<_};
 ghost use Rattle.line.specs.Event.{before as isBefore};
 ghost use Rattle.words.specs.Le.{loadAt, storeAt};
-ghost use Rattle.engine_rows.specs.Records.{eventAt, putEvent, stateAt, putState, storedConfig, putConfig, matterOr};
+ghost use Rattle.engine_records.specs.Records.{eventAt, putEvent, stateAt, putState, storedConfig, putConfig};
 ghost use Rattle.engine_rows.specs.Layout.{stationRow, slotRow};
 use line::Config;
 use line::Event;
-use line::Matter;
 use line::State;
 
 // ---- the header
@@ -39,91 +38,16 @@ pub fn set_header(b: &mut [u8], i: u16, v: u64)
 
 // ---- rows
 
-fn station_row(n: u16, s: u16) -> usize
-    ensures { λ r. ⌜ (r ≡ stationRow n s) × (r < 4294967296) ⌝ }
+fn station_row(n: u16, s: u16) -> u32
+    ensures { λ r. ⌜ (r ≡ stationRow n s) × (r < 16777216) ⌝ }
 {
-    32832 + 64 * n as usize + 128 * s as usize
+    32832 + 64 * n as u32 + 128 * s as u32
 }
 
-fn slot_row(n: u16, i: u16) -> usize
-    ensures { λ r. ⌜ (r ≡ slotRow n i) × (r < 4294967296) ⌝ }
+fn slot_row(n: u16, i: u16) -> u32
+    ensures { λ r. ⌜ (r ≡ slotRow n i) × (r < 33554432) ⌝ }
 {
-    32832 + 192 * n as usize + 64 * i as usize
-}
-
-// ---- records
-
-fn matter(kind: u32, value: u32) -> Matter
-    ensures { λ r. ⌜ r ≡ matterOr kind value ⌝ }
-{
-    match kind {
-        2 => Matter::Frame(value),
-        3 => Matter::Level(value),
-        _ => Matter::Read,
-    }
-}
-
-fn load_event(b: &[u8], at: usize) -> Event
-    requires { ⌜ at < 4294967296 ⌝ }
-    ensures { λ r. ⌜ r ≡ eventAt at (now (b .entry)) ⌝ }
-{
-    Event {
-        time: words::load64(b, at),
-        target: words::load16(b, at + 16),
-        source: words::load16(b, at + 18),
-        number: words::load32(b, at + 8),
-        matter: matter(words::load32(b, at + 20), words::load32(b, at + 12)),
-    }
-}
-
-fn store_event(b: &mut [u8], at: usize, e: Event)
-    requires { ⌜ at < 4294967296 ⌝ }
-    ensures { λ _. ⌜ now (b .exit) ≡ putEvent at e (now (b .entry)) ⌝ }
-{
-    let m = e.matter;
-    words::store64(b, at, e.time);
-    words::store32(b, at + 8, e.number);
-    words::store32(b, at + 12, line::value_of(m));
-    words::store16(b, at + 16, e.target);
-    words::store16(b, at + 18, e.source);
-    words::store32(b, at + 20, line::kind_of(m));
-}
-
-fn load_state(b: &[u8], at: usize) -> State
-    requires { ⌜ at < 4294967296 ⌝ }
-    ensures { λ r. ⌜ r ≡ stateAt at (now (b .entry)) ⌝ }
-{
-    State {
-        draw: words::load32(b, at),
-        level: words::load32(b, at + 4),
-        heard: words::load32(b, at + 8),
-        lost: words::load32(b, at + 12),
-        sent: words::load32(b, at + 16),
-    }
-}
-
-fn store_state(b: &mut [u8], at: usize, s: State)
-    requires { ⌜ at < 4294967296 ⌝ }
-    ensures { λ _. ⌜ now (b .exit) ≡ putState at s (now (b .entry)) ⌝ }
-{
-    words::store32(b, at, s.draw);
-    words::store32(b, at + 4, s.level);
-    words::store32(b, at + 8, s.heard);
-    words::store32(b, at + 12, s.lost);
-    words::store32(b, at + 16, s.sent);
-}
-
-// The event as 24 bytes at a byte of any buffer.
-pub fn write_event(b: &mut [u8], at: u32, e: Event)
-    ensures { λ _. ⌜ now (b .exit) ≡ putEvent at e (now (b .entry)) ⌝ }
-{
-    store_event(b, at as usize, e);
-}
-
-pub fn read_event(b: &[u8], at: u32) -> Event
-    ensures { λ r. ⌜ r ≡ eventAt at (now (b .entry)) ⌝ }
-{
-    load_event(b, at as usize)
+    32832 + 192 * n as u32 + 64 * i as u32
 }
 
 // ---- stations
@@ -132,42 +56,26 @@ pub fn read_event(b: &[u8], at: u32) -> Event
 pub fn config(b: &[u8], n: u16, s: u16) -> Config
     ensures { λ r. ⌜ r ≡ storedConfig (stationRow n s) (now (b .entry)) ⌝ }
 {
-    let at = station_row(n, s);
-    Config {
-        parent: words::load16(b, at),
-        calm: words::load32(b, at + 4),
-        spring: words::load32(b, at + 8),
-        threshold: words::load32(b, at + 12),
-        hop: words::load32(b, at + 16),
-        noise: words::load32(b, at + 20),
-        seed: words::load32(b, at + 24),
-    }
+    engine_records::read_config(b, station_row(n, s))
 }
 
 pub fn set_config(b: &mut [u8], n: u16, s: u16, c: Config)
     ensures { λ _. ⌜ now (b .exit) ≡ putConfig (stationRow n s) c (now (b .entry)) ⌝ }
 {
-    let at = station_row(n, s);
-    words::store16(b, at, c.parent);
-    words::store32(b, at + 4, c.calm);
-    words::store32(b, at + 8, c.spring);
-    words::store32(b, at + 12, c.threshold);
-    words::store32(b, at + 16, c.hop);
-    words::store32(b, at + 20, c.noise);
-    words::store32(b, at + 24, c.seed);
+    engine_records::write_config(b, station_row(n, s), c);
 }
 
 // A station's state.
 pub fn state(b: &[u8], n: u16, s: u16) -> State
     ensures { λ r. ⌜ r ≡ stateAt (stationRow n s + 32) (now (b .entry)) ⌝ }
 {
-    load_state(b, station_row(n, s) + 32)
+    engine_records::read_state(b, station_row(n, s) + 32)
 }
 
 pub fn set_state(b: &mut [u8], n: u16, s: u16, v: State)
     ensures { λ _. ⌜ now (b .exit) ≡ putState (stationRow n s + 32) v (now (b .entry)) ⌝ }
 {
-    store_state(b, station_row(n, s) + 32, v);
+    engine_records::write_state(b, station_row(n, s) + 32, v);
 }
 
 // ---- slots
@@ -176,13 +84,13 @@ pub fn set_state(b: &mut [u8], n: u16, s: u16, v: State)
 pub fn event(b: &[u8], n: u16, i: u16) -> Event
     ensures { λ r. ⌜ r ≡ eventAt (slotRow n i) (now (b .entry)) ⌝ }
 {
-    load_event(b, slot_row(n, i))
+    engine_records::read_event(b, slot_row(n, i))
 }
 
 pub fn set_event(b: &mut [u8], n: u16, i: u16, e: Event)
     ensures { λ _. ⌜ now (b .exit) ≡ putEvent (slotRow n i) e (now (b .entry)) ⌝ }
 {
-    store_event(b, slot_row(n, i), e);
+    engine_records::write_event(b, slot_row(n, i), e);
 }
 
 // Does the event in a slot come before e? Mostly its time tells.
@@ -200,20 +108,20 @@ pub fn before(b: &[u8], n: u16, i: u16, e: Event) -> bool
 pub fn time(b: &[u8], n: u16, i: u16) -> u64
     ensures { λ r. ⌜ r ≡ loadAt 8 (slotRow n i) (now (b .entry)) ⌝ }
 {
-    words::load64(b, slot_row(n, i))
+    words::load64(b, slot_row(n, i) as usize)
 }
 
 // The state from before the event.
 pub fn saved(b: &[u8], n: u16, i: u16) -> State
     ensures { λ r. ⌜ r ≡ stateAt (slotRow n i + 24) (now (b .entry)) ⌝ }
 {
-    load_state(b, slot_row(n, i) + 24)
+    engine_records::read_state(b, slot_row(n, i) + 24)
 }
 
 pub fn set_saved(b: &mut [u8], n: u16, i: u16, v: State)
     ensures { λ _. ⌜ now (b .exit) ≡ putState (slotRow n i + 24) v (now (b .entry)) ⌝ }
 {
-    store_state(b, slot_row(n, i) + 24, v);
+    engine_records::write_state(b, slot_row(n, i) + 24, v);
 }
 
 // Number k of a slot, 0 to 3: the slots of its two sends, its status, and one that is free; 0 where there is none.
@@ -223,7 +131,7 @@ pub fn number(b: &[u8], n: u16, i: u16, k: u16) -> u16
     if 4 <= k {
         return 0;
     }
-    words::load16(b, slot_row(n, i) + 56 + 2 * k as usize)
+    words::load16(b, slot_row(n, i) as usize + 56 + 2 * k as usize)
 }
 
 pub fn set_number(b: &mut [u8], n: u16, i: u16, k: u16, v: u16)
@@ -232,5 +140,5 @@ pub fn set_number(b: &mut [u8], n: u16, i: u16, k: u16, v: u16)
     if 4 <= k {
         return;
     }
-    words::store16(b, slot_row(n, i) + 56 + 2 * k as usize, v);
+    words::store16(b, slot_row(n, i) as usize + 56 + 2 * k as usize, v);
 }

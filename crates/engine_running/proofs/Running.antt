@@ -40,8 +40,8 @@ use Rattle.rules.proofs.Calls.Step.{run-inside, run-good, can-run, run-queue}
 use Rattle.rules.proofs.Calls.Answered.{first-of}
 use Rattle.rings.specs.Table.{nextOf}
 use Rattle.engine_rows.specs.Layout.{stationRow, slotRow}
-use Rattle.engine_rows.specs.Records.{EventFits, StateFits, eventAt, stateAt, storedConfig}
-use Rattle.engine_rows.proofs.Fits.{event-fits, state-fits}
+use Rattle.engine_records.specs.Records.{EventFits, StateFits, eventAt, stateAt, storedConfig}
+use Rattle.engine_records.proofs.Fits.{event-fits, state-fits}
 use Rattle.engine_index.specs.Layout.{linksAt, slotOf, IsSlot, FindsSlot}
 use Rattle.engine_index.specs.Represents.{cell}
 use Rattle.engine_events.specs.Represents.{nonzero, Nodes, none}

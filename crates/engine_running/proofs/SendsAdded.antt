@@ -29,7 +29,7 @@ use Rattle.rules.proofs.Undo.Agree as G
 use Rattle.rules.proofs.Undo.Agree.{does-agree, still-new}
 use Rattle.rules.proofs.Undo.Exist.{IsHeld, is-unrun, is-run, can-add, waiting-held}
 use Rattle.rules.proofs.Calls.Room.{does-length}
-use Rattle.engine_rows.specs.Records.{EventFits}
+use Rattle.engine_records.specs.Records.{EventFits}
 use Rattle.engine_index.specs.Represents.{Cell, cell}
 use Rattle.engine_events.specs.Represents.{heldOf, Has, nonzero, Nodes}
 use Rattle.engine_events.specs.Promises.{New, Becomes}

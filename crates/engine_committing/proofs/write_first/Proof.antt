@@ -4,7 +4,7 @@ use Prim.Native.Nat.{_-_, _≤_}
 use native.Mathlib.Omega.{arith}
 use borrow.Author.Needs.{needs}
 use lib.ListN.{length}
-use Rattle.engine_rows.proofs.RecordLaws.{length-event}
+use Rattle.engine_records.proofs.RecordLaws.{length-event}
 use Rattle.engine_events.specs.Promises.{AfterHeader}
 use Rattle.engine_events.proofs.AfterHeader.{after-header-same, after-header-on}
 use Rattle.engine_promises.proofs.FoundSlots.{no-slot, slot-event}

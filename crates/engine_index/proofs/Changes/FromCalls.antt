@@ -17,7 +17,7 @@ use Rattle.rings.specs.Walk.{steps}
 use Rattle.rings.proofs.Steps.{at-stop}
 use Rattle.rings.proofs.Confined.{unlink-frame}
 use Rattle.engine_rows.specs.Layout.{slotRow}
-use Rattle.engine_rows.specs.Records.{eventAt, putEvent, putState}
+use Rattle.engine_records.specs.Records.{eventAt, putEvent, putState}
 use Rattle.engine_index.specs.Layout.{linksAt, logAt, nodesOf, slotOf, FindsSlot}
 use Rattle.engine_index.specs.SlotPromises.{Spares, Sets}
 use Rattle.engine_index.specs.Represents.{cell}

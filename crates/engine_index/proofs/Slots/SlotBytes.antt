@@ -14,9 +14,9 @@ use Rattle.rules.specs.Held.{Held, unrun, ran}
 use Rattle.rings.specs.Table.{Outside, Frame}
 use Rattle.rings.proofs.Frames.{store-frame, frame-on, frame-wider}
 use Rattle.engine_rows.specs.Layout.{slotRow}
-use Rattle.engine_rows.specs.Records.{eventAt, putEvent, stateAt, putState, EventFits, StateFits}
-use Rattle.engine_rows.proofs.RecordLaws.{length-event, length-state, event-beside, state-beside, event-back, state-back}
-use Rattle.engine_rows.proofs.Cells.{number, event, state, read-beside}
+use Rattle.engine_records.specs.Records.{eventAt, putEvent, stateAt, putState, EventFits, StateFits}
+use Rattle.engine_records.proofs.RecordLaws.{length-event, length-state, event-beside, state-beside, event-back, state-back}
+use Rattle.engine_records.proofs.Cells.{number, event, state, read-beside}
 use Rattle.engine_rows.proofs.Rows.{slots}
 use Rattle.engine_index.specs.Layout.{slotOf, linksAt}
 use Rattle.engine_index.specs.Represents.{statusAt, HeldAt}

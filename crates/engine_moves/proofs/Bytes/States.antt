@@ -10,9 +10,9 @@ use Rattle.line.specs.Station.{Plan, update}
 use Rattle.rules.specs.Held.{Queue}
 use Rattle.rules.proofs.Update.{Which, this, other, which, update-at, update-other}
 use Rattle.engine_rows.specs.Layout.{stationRow, slotRow}
-use Rattle.engine_rows.specs.Records.{stateAt, putState, StateFits}
-use Rattle.engine_rows.proofs.RecordLaws.{length-state, state-back}
-use Rattle.engine_rows.proofs.Cells.{state, config, beside, read-beside}
+use Rattle.engine_records.specs.Records.{stateAt, putState, StateFits}
+use Rattle.engine_records.proofs.RecordLaws.{length-state, state-back}
+use Rattle.engine_records.proofs.Cells.{state, config, beside, read-beside}
 use Rattle.engine_index.specs.Layout.{slotOf}
 use Rattle.engine_index.specs.Represents.{Cell}
 use Rattle.engine_index.proofs.Slots.SlotBytes.{state-frame}

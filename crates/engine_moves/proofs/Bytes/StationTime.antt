@@ -16,7 +16,7 @@ use Rattle.rules.proofs.Undo.RunFirst.{first-in as held-in}
 use Rattle.rules.proofs.Replay.Registered.{registered-at, registered-first}
 use Rattle.rings.specs.Table.{nextOf, Frame}
 use Rattle.engine_rows.specs.Layout.{slotRow}
-use Rattle.engine_rows.proofs.RecordLaws.{event-time}
+use Rattle.engine_records.proofs.RecordLaws.{event-time}
 use Rattle.calendar.specs.declared.Answer.{Answer}
 use Rattle.calendar.specs.Rules.{withTime, registerChecks, registered as entered, unregisterChecks, unregistered}
 use Rattle.calendar.specs.Bytes.{Sound, stateOf}

@@ -7,7 +7,7 @@ use native.Mathlib.Omega.{arith}
 use Rattle.words.specs.Le.{loadAt}
 use Rattle.rings.specs.Table.{Frame}
 use Rattle.engine_rows.specs.Layout.{stationRow, slotRow}
-use Rattle.engine_rows.specs.Records.{stateAt, storedConfig}
+use Rattle.engine_records.specs.Records.{stateAt, storedConfig}
 
 module _ {a l : ℕ} {xs ys : List ℕ} (n s : ℕ) (b : s < n) (F : Frame a l xs ys) (h : slotRow n 0 ≤ a) where
   at : (m j : ℕ) → j + m ≤ stationRow n s + 128 → loadAt m j ys ≡ loadAt m j xs

@@ -9,7 +9,7 @@ use Rattle.words.specs.Le.{loadAt}
 use Rattle.line.specs.declared.Event.{Event}
 use Rattle.rules.specs.Held.{unrun}
 use Rattle.engine_rows.specs.Layout.{slotRow}
-use Rattle.engine_rows.specs.Records.{eventAt}
+use Rattle.engine_records.specs.Records.{eventAt}
 use Rattle.engine_index.specs.Layout.{slotOf, IsSlot}
 use Rattle.engine_index.specs.SlotPromises.{Spares, Sets}
 use Rattle.engine_index.specs.Promises.{Drops}

@@ -1,40 +1,13 @@
--- The fields that were loaded are those of the definition.
+-- The call's place is the station's row.
+use Rattle.engine_records.specs.Records.{storedConfig}
 use mathlib.Core.Path.{_∙_, ap}
 use borrow.Author.Needs.{needs}
-use Rattle.engine_rows.specs.Records.{storedConfig}
 use Rattle.engine_rows.proofs.config.Statement.{statement}
 use Rattle.engine_rows.proofs.config.Tie as tie
 
 returns : tie.Need-returns
-unfolding storedConfig
 returns c =
-    (λ i. record {
-      parent = c .before .before .before .before .before .before .load16 .ensures i;
-      calm = c .before .before .before .before .before .load32 .ensures i;
-      spring = c .before .before .before .before .load322 .ensures i;
-      threshold = c .before .before .before .load323 .ensures i;
-      hop = c .before .before .load324 .ensures i;
-      noise = c .before .load325 .ensures i;
-      seed = c .load326 .ensures i;
-    })
-    ∙ ap (λ z. storedConfig z (c .before .before .before .before .before .before .before .before .before .args .b .now)) (c .before .before .before .before .before .before .before .station-row .ensures .0)
+    c .read-config .ensures ∙ ap (λ z. storedConfig z (c .before .before .before .args .b .now)) (c .before .station-row .ensures .0)
 
 pub config-spec : {M : Type 1} → statement M
-config-spec =
-    tie.close
-    (tie.spec
-    (λ c κs. search needs)
-    (λ c κs. search needs)
-    (λ c. search needs)
-    (λ c κs. search needs)
-    (λ c. search needs)
-    (λ c κs. search needs)
-    (λ c. search needs)
-    (λ c κs. search needs)
-    (λ c. search needs)
-    (λ c κs. search needs)
-    (λ c. search needs)
-    (λ c κs. search needs)
-    (λ c. search needs)
-    (λ c κs. search needs)
-    returns)
+config-spec = tie.close (tie.spec (λ c κs. search needs) (λ c κs. search needs) returns)

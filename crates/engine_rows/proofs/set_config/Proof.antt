@@ -1,40 +1,13 @@
--- The stores are those of the definition, in its order.
-use Rattle.words.specs.Le.{storeAt}
+-- The call's place is the station's row.
+use Rattle.engine_records.specs.Records.{putConfig}
 use mathlib.Core.Path.{_∙_, ap}
 use borrow.Author.Needs.{needs}
-use Rattle.engine_rows.specs.Records.{putConfig}
 use Rattle.engine_rows.proofs.set_config.Statement.{statement}
 use Rattle.engine_rows.proofs.set_config.Tie as tie
 
 returns : tie.Need-returns
-unfolding putConfig
 returns c =
-    c .before .before .store326 .ensures
-    ∙ ap (storeAt 4 _ _) (c .before .before .before .before .before .before .store325 .ensures
-    ∙ ap (storeAt 4 _ _) (c .before .before .before .before .before .before .before .before .before .before .store324 .ensures
-    ∙ ap (storeAt 4 _ _) (c .before .before .before .before .before .before .before .before .before .before .before .before .before .before .store323 .ensures
-    ∙ ap (storeAt 4 _ _) (c .before .before .before .before .before .before .before .before .before .before .before .before .before .before .before .before .before .before .store322 .ensures
-    ∙ ap (storeAt 4 _ _) (c .before .before .before .before .before .before .before .before .before .before .before .before .before .before .before .before .before .before .before .before .before .before .store32 .ensures
-    ∙ ap (storeAt 4 _ _) (c .before .before .before .before .before .before .before .before .before .before .before .before .before .before .before .before .before .before .before .before .before .before .before .before .before .before .store16 .ensures))))))
-    ∙ ap (λ z. putConfig z (c .before .before .before .before .before .before .before .before .before .before .before .before .before .before .before .before .before .before .before .before .before .before .before .before .before .before .before .before .before .before .args .c) (c .before .before .before .before .before .before .before .before .before .before .before .before .before .before .before .before .before .before .before .before .before .before .before .before .before .before .before .before .before .before .args .b .now)) (c .before .before .before .before .before .before .before .before .before .before .before .before .before .before .before .before .before .before .before .before .before .before .before .before .before .before .before .before .station-row .ensures .0)
+    c .before .before .write-config .ensures ∙ ap (λ z. putConfig z (c .before .before .before .before .before .before .args .c) (c .before .before .before .before .before .before .args .b .now)) (c .before .before .before .station-row .ensures .0)
 
 pub set-config-spec : {M : Type 1} → statement M
-set-config-spec =
-    tie.close
-    (tie.spec
-    (λ c κs. search needs)
-    (λ c κs. search needs)
-    (λ c. search needs)
-    (λ c κs. search needs)
-    (λ c. search needs)
-    (λ c κs. search needs)
-    (λ c. search needs)
-    (λ c κs. search needs)
-    (λ c. search needs)
-    (λ c κs. search needs)
-    (λ c. search needs)
-    (λ c κs. search needs)
-    (λ c. search needs)
-    (λ c κs. search needs)
-    (λ c. search needs)
-    returns)
+set-config-spec = tie.close (tie.spec (λ c κs. search needs) (λ c κs. search needs) (λ c. search needs) returns)

@@ -1,5 +1,5 @@
 -- The call's place is the slot's row.
-use Rattle.engine_rows.specs.Records.{putEvent}
+use Rattle.engine_records.specs.Records.{putEvent}
 use mathlib.Core.Path.{_∙_, ap}
 use borrow.Author.Needs.{needs}
 use Rattle.engine_rows.proofs.set_event.Statement.{statement}
@@ -7,7 +7,7 @@ use Rattle.engine_rows.proofs.set_event.Tie as tie
 
 returns : tie.Need-returns
 returns c =
-    c .before .before .store-event .ensures ∙ ap (λ z. putEvent z (c .before .before .before .before .before .before .args .e) (c .before .before .before .before .before .before .args .b .now)) (c .before .before .before .slot-row .ensures .0)
+    c .before .before .write-event .ensures ∙ ap (λ z. putEvent z (c .before .before .before .before .before .before .args .e) (c .before .before .before .before .before .before .args .b .now)) (c .before .before .before .slot-row .ensures .0)
 
 pub set-event-spec : {M : Type 1} → statement M
 set-event-spec = tie.close (tie.spec (λ c κs. search needs) (λ c κs. search needs) (λ c. search needs) returns)

@@ -10,4 +10,4 @@ returns c =
     c .load64 .ensures ∙ ap (λ z. loadAt 8 z (c .before .before .before .args .b .now)) (c .before .slot-row .ensures .0)
 
 pub time-spec : {M : Type 1} → statement M
-time-spec = tie.close (tie.spec (λ c κs. search needs) (λ c κs. search needs) returns)
+time-spec = tie.close (tie.spec (λ c κs. search needs) (λ c. search needs) (λ c κs. search needs) returns)

@@ -11,9 +11,9 @@ use Rattle.words.proofs.Laws.{Apart, length-store, load-other, load-stored}
 use Rattle.line.specs.declared.Event.{Event}
 use Rattle.line.specs.declared.State.{State}
 use Rattle.line.specs.declared.Config.{Config}
-use Rattle.engine_rows.specs.Records.{eventAt, putEvent, stateAt, putState, storedConfig, putConfig, EventFits, StateFits, ConfigFits}
-use Rattle.engine_rows.proofs.RecordLaws.{length-event, length-state, length-config, event-beside, state-beside, config-beside}
-use Rattle.engine_rows.proofs.RecordLaws.{event-back, state-back, config-back}
+use Rattle.engine_records.specs.Records.{eventAt, putEvent, stateAt, putState, storedConfig, putConfig, EventFits, StateFits, ConfigFits}
+use Rattle.engine_records.proofs.RecordLaws.{length-event, length-state, length-config, event-beside, state-beside, config-beside}
+use Rattle.engine_records.proofs.RecordLaws.{event-back, state-back, config-back}
 
 -- a number of so many bytes, an event, a state, a station's numbers of the plan
 pub data Cell : Type 0 where

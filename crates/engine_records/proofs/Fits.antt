@@ -9,7 +9,7 @@ use Rattle.words.specs.Le.{loadAt}
 use Rattle.words.proofs.Laws.{load-lt}
 use Rattle.line.specs.declared.Matter.the-variants.{Read, Frame, Level}
 use Rattle.line.specs.Matter.{valueOf}
-use Rattle.engine_rows.specs.Records.{matterOr, eventAt, stateAt, EventFits, StateFits}
+use Rattle.engine_records.specs.Records.{matterOr, eventAt, stateAt, EventFits, StateFits}
 
 value-fits : (kind value : ℕ) → value < 2 ^ 32 → valueOf (matterOr kind value) < 2 ^ 32
 unfolding matterOr

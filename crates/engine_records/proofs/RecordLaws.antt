@@ -17,8 +17,8 @@ use Rattle.line.specs.declared.Matter.the-variants.{Read, Frame, Level}
 use Rattle.line.specs.Matter.{kindOf, valueOf}
 use Rattle.line.specs.Event.{before}
 use Rattle.line.proofs.Order.{lex-apart}
-use Rattle.engine_rows.specs.Records.{matterOr, eventAt, putEvent, stateAt, putState, storedConfig, putConfig, EventFits, StateFits, ConfigFits}
-use Rattle.engine_rows.proofs.Run.{Run, puts, size, Fit, Reads, length-puts, puts-beside, puts-back}
+use Rattle.engine_records.specs.Records.{matterOr, eventAt, putEvent, stateAt, putState, storedConfig, putConfig, EventFits, StateFits, ConfigFits}
+use Rattle.engine_records.proofs.Run.{Run, puts, size, Fit, Reads, length-puts, puts-beside, puts-back}
 
 -- ---- a record as a run of numbers
 

@@ -2,9 +2,9 @@
 use Rattle.words.specs.Le.{storeAt}
 use mathlib.Core.Path.{_∙_, ap}
 use borrow.Author.Needs.{needs}
-use Rattle.engine_rows.specs.Records.{putState}
-use Rattle.engine_rows.proofs.store_state.Statement.{statement}
-use Rattle.engine_rows.proofs.store_state.Tie as tie
+use Rattle.engine_records.specs.Records.{putState}
+use Rattle.engine_records.proofs.write_state.Statement.{statement}
+use Rattle.engine_records.proofs.write_state.Tie as tie
 
 returns : tie.Need-returns
 unfolding putState
@@ -15,8 +15,8 @@ returns c =
     ∙ ap (storeAt 4 _ _) (c .before .before .before .before .before .before .before .before .before .before .before .before .before .before .store322 .ensures
     ∙ ap (storeAt 4 _ _) (c .before .before .before .before .before .before .before .before .before .before .before .before .before .before .before .before .before .before .store32 .ensures))))
 
-pub store-state-spec : {M : Type 1} → statement M
-store-state-spec =
+pub write-state-spec : {M : Type 1} → statement M
+write-state-spec =
     tie.close
     (tie.spec
     (λ c κs. search needs)

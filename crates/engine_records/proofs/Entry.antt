@@ -5,9 +5,9 @@ use Prim.Native.Nat.{ℕ, _+_, _≤_}
 use native.Mathlib.Nat.{add-zero}
 use lib.ListN.{length, take, drop}
 use Rattle.line.specs.declared.Event.{Event}
-use Rattle.engine_rows.specs.Records.{putEvent, entryOf}
-use Rattle.engine_rows.proofs.Run.{size, bytes, puts-parts}
-use Rattle.engine_rows.proofs.RecordLaws.{eventRun, event-run}
+use Rattle.engine_records.specs.Records.{putEvent, entryOf}
+use Rattle.engine_records.proofs.Run.{size, bytes, puts-parts}
+use Rattle.engine_records.proofs.RecordLaws.{eventRun, event-run}
 
 pub event-parts : (at : ℕ) (x : Event) (xs : List ℕ) → at + 24 ≤ length xs → putEvent at x xs ≡ take at xs ++ (entryOf x ++ drop (at + 24) xs)
 unfolding size bytes entryOf

@@ -1,8 +1,8 @@
 -- The fields that were loaded are those of the definition.
 use borrow.Author.Needs.{needs}
-use Rattle.engine_rows.specs.Records.{stateAt}
-use Rattle.engine_rows.proofs.load_state.Statement.{statement}
-use Rattle.engine_rows.proofs.load_state.Tie as tie
+use Rattle.engine_records.specs.Records.{stateAt}
+use Rattle.engine_records.proofs.read_state.Statement.{statement}
+use Rattle.engine_records.proofs.read_state.Tie as tie
 
 returns : tie.Need-returns
 unfolding stateAt
@@ -15,8 +15,8 @@ returns c =
       sent = c .load325 .ensures i;
     }
 
-pub load-state-spec : {M : Type 1} → statement M
-load-state-spec =
+pub read-state-spec : {M : Type 1} → statement M
+read-state-spec =
     tie.close
     (tie.spec
     (λ c κs. search needs)

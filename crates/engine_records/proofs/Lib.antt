@@ -1,0 +1,5 @@
+pub mod Run
+pub mod RecordLaws
+pub mod Fits
+pub mod Entry
+pub mod Cells
