@@ -3,8 +3,6 @@
 use line::State;
 use refusal::Refusal;
 
-// ---- answers: the values of an accepted call, or the refusal
-
 pub enum OpenAnswer {
     Done,
     Refused(Refusal),

@@ -1,4 +1,4 @@
--- What each change of the queue makes of what the bytes hold.
+-- What each change of one event makes of what the bytes hold.
 use mathlib.Core.Path.{_≡_}
 use mathlib.Core.Bool.{Bool, true, false}
 use mathlib.Core.List.{List, [], _∷_, _++_, List·Memᴰ}

@@ -60,6 +60,8 @@ pub fn second_send(b: &[u8], n: u16, x: u16) -> u16
     engine_rows::number(b, n, engine_index::slot(n, x), 1)
 }
 
+// ---- the calendar
+
 // A station of the least time among the first unrun events, with that time.
 pub fn lowest(b: &[u8], n: u16, c: u16) -> Least
     ensures { λ r. ⌜ Finds n c (now (b .entry)) r ⌝ }

@@ -73,7 +73,7 @@ pub fn release(b: &mut [u8], n: u16, c: u16, x: u16)
     }
 }
 
-// ---- open
+// ---- all slots
 
 // Nodes 0 to m - 1 are alone in their rings.
 fn empty_rings(b: &mut [u8], o: u32, k: u16, m: u16)

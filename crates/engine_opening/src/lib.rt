@@ -11,8 +11,6 @@ use line::State;
 use plan::ReadAnswer;
 use refusal::Refusal;
 
-// ---- open
-
 // Stations 0 to n - 1 get the plan's numbers and their first states.
 fn begin_stations(plan: &[u8], b: &mut [u8], n: u16)
     requires { ⌜ n ≤ 256 ⌝ }

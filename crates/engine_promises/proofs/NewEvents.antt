@@ -1,4 +1,4 @@
--- While a run's sends are added one after the other, its event stays the first of its station, with the station's state, and each send has its node.
+-- A new event, as the rules and as the held events have it.
 use mathlib.Core.List.{List}
 use Rattle.line.specs.declared.Event.{Event}
 use Rattle.line.proofs.Order.{Differ, differ-sym}
@@ -8,6 +8,5 @@ use Rattle.rules.proofs.Replay.RunsLeft.{differ-same}
 use Rattle.rules.proofs.Undo.Agree as G
 use Rattle.engine_events.specs.Promises.{New}
 
--- new as the rules have it is new as the queue has it
 pub as-new : (y : Event) (h : List Held) → G.New y h → New y h
 as-new y h a z m = differ-same (differ-sym (all-in (λ v. Differ y (event v)) m a))

@@ -4,8 +4,6 @@ ghost use mathlib.Core.Path.{_≡_};
 ghost use Rattle.words.specs.Le.{loadAt};
 ghost use Rattle.engine_promises.specs.Steps.{atMost};
 
-// ---- the header: stations, capacity, commit time, number of the next post
-
 // The number of stations; 257 where it is more than 256.
 pub fn stations(b: &[u8]) -> u16
     ensures { λ r. ⌜ r ≡ atMost 256 (loadAt 8 0 (now (b .entry))) ⌝ }

@@ -1,4 +1,4 @@
--- The bytes between two steps of a call, with what the rules keep (rules/proofs: Cascade, Neat, Functions).
+-- The bytes between two steps of a call, with what the rules keep (rules/proofs/Undo/Cascade and Functions, rules/proofs/Replay/Neat).
 use mathlib.Core.Path.{_≡_}
 use mathlib.Core.List.{List}
 use Prim.Native.Nat.{ℕ, _+_}

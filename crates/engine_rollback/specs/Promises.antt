@@ -1,4 +1,4 @@
--- What undoing, removing and adding do to what the bytes hold: what the rules say, as functions (rules/proofs/Functions).
+-- What undoing, removing and adding do to what the bytes hold: what the rules say, as functions (rules/proofs/Undo/Functions).
 use mathlib.Core.Logic.{_⊎_}
 use mathlib.Core.List.{List, _∷_}
 use Prim.Native.Nat.{ℕ, _≤_, _<_}

@@ -20,8 +20,6 @@ use line::Ran;
 use line::Sending;
 use refusal::Refusal;
 
-// ---- run
-
 // How many events a place for a send has.
 fn sends(s: Sending) -> u16
     ensures { λ r. ⌜ r ≡ length (sendsOf s) ⌝ }

@@ -15,8 +15,6 @@ pub struct Named<'a> {
     pub part: &'a [u8],
 }
 
-// ---- one station's name
-
 // Where the name of a station stands.
 fn place_of(plan: &[u8], station: u64) -> NameAnswer
     ensures { λ r. ⌜ r ≡ naming (now (plan .entry)) station ⌝ }
