@@ -1,5 +1,4 @@
 -- In range, the sum is that of the definition and fits; out of range nothing is promised.
-use native.Mathlib.Omega.{arith}
 use Prim.Native.Nat.{_≤_}
 use borrow.Author.Needs.{needs}
 use Rattle.engine_index.proofs.Places.Refusals.{range-true, range-gone}
