@@ -1,3 +1,4 @@
+-- The rings: what stands in each, in which order, and what its ends lead to.
 pub mod Contents
 pub mod NodeMoves
 pub mod Order

@@ -1,3 +1,4 @@
+-- What stands in the slots, and what leaves it as it was.
 pub mod SlotBytes
 pub mod OtherSlots
 pub mod SlotsSpared

@@ -1,3 +1,4 @@
+-- Lists of cells: parted at one of them, and what is known of each.
 pub mod Split
 pub mod OrderSplit
 pub mod SendNodes

@@ -1,3 +1,4 @@
+-- One event changed: what the bytes hold then.
 pub mod Cleared
 pub mod IndexChanged
 pub mod Hold

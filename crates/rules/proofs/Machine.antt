@@ -1,3 +1,4 @@
+-- The plain machine by itself: it goes by the order, has one result, and halts.
 pub mod Insert
 pub mod Sorted
 pub mod Feed

@@ -1,3 +1,4 @@
+-- The held events as a replay of the plain machine, and what each elementary change makes of that.
 pub mod Replay
 pub mod Unmark
 pub mod Delete

@@ -1,3 +1,4 @@
+-- Undo, remove and add as functions, and that they are the rules.
 pub mod Functions
 pub mod Cascade
 pub mod Fuel

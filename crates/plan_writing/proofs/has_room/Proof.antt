@@ -1,6 +1,6 @@
+-- `has_room` meets its contract: each `return` stands after the tests that `roomy` makes.
 use Rattle.plan_writing.proofs.WriteTests.{and-next}
 use mathlib.Core.Path.{refl}
--- `has_room` meets its contract: each `return` stands after the tests that `roomy` makes.
 use borrow.Author.Tests.{le-leb, lt-leb}
 use borrow.Author.Needs.{needs}
 use Rattle.plan_writing.proofs.has_room.Statement.{statement}

@@ -1,5 +1,5 @@
-use Rattle.plan_writing.specs.Steps.{headOf}
 -- `put_head` meets its contract: four stores, each after the last, are one run.
+use Rattle.plan_writing.specs.Steps.{headOf}
 use Rattle.plan_writing.proofs.WriteStores.{store-sets, store-then}
 use Rattle.words.proofs.Laws.{length-bytes}
 use Rattle.words.specs.Le.{bytesOf}
