@@ -15,24 +15,12 @@ Inv-loop line at i₀ i = (at ≤ i) × (count (drop at line) + at ≡ i + count
 abbrev μ-loop : tie.MeasureT-loop
 μ-loop line at i₀ i = length line - i
 
-loop-holds : tie.Need-loop-holds Inv-loop μ-loop
-loop-holds c = omega arith
-
-shared-slice-read-b : tie.Need-shared-slice-read-b Inv-loop μ-loop
-shared-slice-read-b c = omega arith
-
-sub-result : tie.Need-sub-result Inv-loop μ-loop
-sub-result c = omega arith
-
 returns : tie.Need-returns Inv-loop μ-loop
 returns c =
     let xs = c .before .before .before .before .args .line .now in
     let i = c .before .before .before .loop .i in
     let z = at-other xs i (omega arith) (simp (lt-leb 48 (getD xs i 0) (c .if1 .taken))) in
     omega arith
-
-sub-result-2 : tie.Need-sub-result-2 Inv-loop μ-loop
-sub-result-2 c = omega arith
 
 returns-2 : tie.Need-returns-2 Inv-loop μ-loop
 returns-2 c =
@@ -41,12 +29,6 @@ returns-2 c =
     let z = at-other xs i (omega arith) (simp (le-leb 48 (getD xs i 0) (c .before .if1 .left), lt-leb (getD xs i 0) 57 (c .if2 .taken))) in
     omega arith
 
-add-i : tie.Need-add-i Inv-loop μ-loop
-add-i c = omega arith
-
-loop-less : tie.Need-loop-less Inv-loop μ-loop
-loop-less c = omega arith
-
 loop-again : tie.Need-loop-again Inv-loop μ-loop
 loop-again c =
     let xs = c .before .before .before .before .before .args .line .now in
@@ -54,26 +36,20 @@ loop-again c =
     let z = at-digit xs i (record { within = omega arith; least = c .before .if1 .left; most = c .if2 .left }) in
     omega arith
 
-sub-result-3 : tie.Need-sub-result-3 Inv-loop μ-loop
-sub-result-3 c = omega arith
-
-returns-3 : tie.Need-returns-3 Inv-loop μ-loop
-returns-3 c = let z = at-end (c .before .before .args .line .now) (c .before .loop .i) (omega arith) in omega arith
-
 pub digit-count-spec : {M : Type 1} → statement M
 digit-count-spec =
     tie.close
     (tie.spec
     Inv-loop
     μ-loop
-    loop-holds
-    shared-slice-read-b
-    sub-result
+    (λ c. omega arith)
+    (λ c. omega arith)
+    (λ c. omega arith)
     returns
-    sub-result-2
+    (λ c. omega arith)
     returns-2
-    add-i
-    loop-less
+    (λ c. omega arith)
+    (λ c. omega arith)
     loop-again
-    sub-result-3
-    returns-3)
+    (λ c. omega arith)
+    (λ c. let z = at-end (c .before .before .args .line .now) (c .before .loop .i) (omega arith) in omega arith))

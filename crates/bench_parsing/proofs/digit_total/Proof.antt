@@ -1,4 +1,4 @@
--- What is read is the total of the digits that are passed: where it is over, so is the whole.
+-- What is read is the total of the digits that are passed: where it is over, so is the whole (`over`).
 use mathlib.Core.Path.{_≡_, sym, ap, _∙_}
 use mathlib.Core.List.{List}
 use Prim.Native.Nat.{ℕ, suc, _+_, _-_, _*_, _≤_, _<_}
@@ -23,18 +23,27 @@ abbrev μ-loop : tie.MeasureT-loop
 digit : (c : tie.In-loop Inv-loop μ-loop) → Digit (c .before .before .args .line .now) (c .before .before .args .at + c .before .loop .k)
 digit c = digit-at _ _ (omega arith)
 
-over : (t : ℕ) → 18446744073709551615 < t → Over ≡ totalOf t
-over t h = rw (lt-leb t 18446744073709551615 h)
-
 -- what is left after a turn, and what it says
+next : (at k : ℕ) → at + k + 1 ≡ at + (k + 1)
+next at k = omega arith
+
 left : (xs : List ℕ) (at k : ℕ) → Digit xs (at + k) → count (drop (at + k) xs) ≡ suc (count (drop (at + (k + 1)) xs))
-left xs at k d = at-digit xs (at + k) d ∙ ap (λ (m : ℕ). suc (count (drop m xs))) (let e : at + k + 1 ≡ at + (k + 1) = omega arith in e)
+left xs at k d = at-digit xs (at + k) d ∙ ap (λ (m : ℕ). suc (count (drop m xs))) (next at k)
 
 sum : (xs : List ℕ) (at k v : ℕ) → Digit xs (at + k)
     → total v (drop (at + k) xs) ≡ total (10 * v + (getD xs (at + k) 0 - 48)) (drop (at + (k + 1)) xs)
-sum xs at k v d =
-    sum-digit xs (at + k) v d
-    ∙ ap (λ (m : ℕ). total (10 * v + (getD xs (at + k) 0 - 48)) (drop m xs)) (let e : at + k + 1 ≡ at + (k + 1) = omega arith in e)
+sum xs at k v d = sum-digit xs (at + k) v d ∙ ap (λ (m : ℕ). total (10 * v + (getD xs (at + k) 0 - 48)) (drop m xs)) (next at k)
+
+-- where the total after a turn is over, so is the whole
+over : (c : tie.In-loop Inv-loop μ-loop) → let a = c .before .before .args in let l = c .before .loop in
+    18446744073709551615 < 10 * l .v + (getD (a .line .now) (a .at + l .k) 0 - 48) → Over ≡ totalOf (total 0 (drop (a .at) (a .line .now)))
+over c h =
+    let a = c .before .before .args in
+    let l = c .before .loop in
+    let xs = a .line .now in
+    let z = sum xs (a .at) (l .k) (l .v) (digit c) in
+    let m = total-least (10 * l .v + (getD xs (a .at + l .k) 0 - 48)) (drop (a .at + (l .k + 1)) xs) in
+    rw (lt-leb (total 0 (drop (a .at) xs)) 18446744073709551615 (omega (arith, l .inv .2)))
 
 loop-holds : tie.Need-loop-holds Inv-loop μ-loop
 loop-holds c =
@@ -45,61 +54,19 @@ loop-holds c =
       ap (λ (m : ℕ). count (drop m (c .args .line .now))) (sym e) ∙ sym (c .pre) ∙ omega arith,
     )
 
-add-b : tie.Need-add-b Inv-loop μ-loop
-add-b c = let h = digit (c) in omega arith
-
-shared-slice-read-b : tie.Need-shared-slice-read-b Inv-loop μ-loop
-shared-slice-read-b c = let h = digit (c .before) in omega arith
-
-sub-d : tie.Need-sub-d Inv-loop μ-loop
-sub-d c = let h = digit (c .before) in omega arith
-
-cast-d : tie.Need-cast-d Inv-loop μ-loop
-cast-d c = let h = digit (c .before) in omega arith
-
 returns : tie.Need-returns Inv-loop μ-loop
-returns c =
-    let a = c .before .before .before .before .args in
-    let l = c .before .before .before .loop in
-    let xs = a .line .now in
-    let z = sum xs (a .at) (l .k) (l .v) (digit (c .before .before)) in
-    over (total 0 (drop (a .at) xs))
-    (omega (arith, total-least (10 * l .v + (getD xs (a .at + l .k) 0 - 48)) (drop (a .at + (l .k + 1)) xs), l .inv .2, z))
-
-sub-if2 : tie.Need-sub-if2 Inv-loop μ-loop
-sub-if2 c = let h = digit (c .before .before) in omega arith
-
-mul-if2 : tie.Need-mul-if2 Inv-loop μ-loop
-mul-if2 c = let h = digit (c .before .before) in omega arith
+returns c = over (c .before .before) (omega arith)
 
 returns-2 : tie.Need-returns-2 Inv-loop μ-loop
-returns-2 c =
-    let a = c .before .before .before .before .before .args in
-    let l = c .before .before .before .before .loop in
-    let xs = a .line .now in
-    let h = digit (c .before .before .before) in
-    let z = sum xs (a .at) (l .k) (l .v) h in
-    over (total 0 (drop (a .at) xs))
-    (omega (arith, total-least (10 * l .v + (getD xs (a .at + l .k) 0 - 48)) (drop (a .at + (l .k + 1)) xs), l .inv .2, z))
-
-mul-v : tie.Need-mul-v Inv-loop μ-loop
-mul-v c = let h = digit (c .before .before .before) in omega arith
-
-add-v : tie.Need-add-v Inv-loop μ-loop
-add-v c = let h = digit (c .before .before .before) in omega arith
-
-add-k : tie.Need-add-k Inv-loop μ-loop
-add-k c = omega arith
-
-loop-less : tie.Need-loop-less Inv-loop μ-loop
-loop-less c = omega arith
+returns-2 c = let i = c .before .before .before in let h = digit i in over i (omega arith)
 
 loop-again : tie.Need-loop-again Inv-loop μ-loop
 loop-again c =
-    let a = c .before .before .before .before .before .args in
-    let l = c .before .before .before .before .loop in
+    let i = c .before .before .before in
+    let a = i .before .before .args in
+    let l = i .before .loop in
     let xs = a .line .now in
-    let h = digit (c .before .before .before) in
+    let h = digit i in
     let z = left xs (a .at) (l .k) h in
     (omega arith, omega arith, l .inv .2 ∙ sum xs (a .at) (l .k) (l .v) h, omega (arith, z, l .inv .3))
 
@@ -118,17 +85,17 @@ digit-total-spec =
     Inv-loop
     μ-loop
     loop-holds
-    add-b
-    shared-slice-read-b
-    sub-d
-    cast-d
+    (λ c. let h = digit c in omega arith)
+    (λ c. let h = digit (c .before) in omega arith)
+    (λ c. let h = digit (c .before) in omega arith)
+    (λ c. let h = digit (c .before) in omega arith)
     returns
-    sub-if2
-    mul-if2
+    (λ c. let h = digit (c .before .before) in omega arith)
+    (λ c. let h = digit (c .before .before) in omega arith)
     returns-2
-    mul-v
-    add-v
-    add-k
-    loop-less
+    (λ c. let h = digit (c .before .before .before) in omega arith)
+    (λ c. let h = digit (c .before .before .before) in omega arith)
+    (λ c. omega arith)
+    (λ c. omega arith)
     loop-again
     returns-3)

@@ -15,36 +15,32 @@ returns c = none-here _ _ _ (c .before .digit-count .ensures) (c .if1 .taken)
 
 shared-slice-read-if2 : tie.Need-shared-slice-read-if2
 shared-slice-read-if2 c =
-    let at-digit-count = c .before .before in
-    let start = at-digit-count .before .before in
-    digit-at (start .args .line .now) (start .args .at) (omega (arith, at-digit-count .digit-count .ensures, c .before .if1 .left)) .within
+    let a = c .before .before .before .before .args in
+    digit-at (a .line .now) (a .at) (omega (arith, c .before .before .digit-count .ensures, c .before .if1 .left)) .within
 
 returns-2 : tie.Need-returns-2
 returns-2 c = none-zero _ _ _ (c .before .before .before .before .digit-count .ensures) (c .before .if2 .taken) (c .if3 .taken)
 
 returns-3 : tie.Need-returns-3
 returns-3 c =
-    let at-digit-total = c .before .before in
-    let at-digit-count = at-digit-total .before .before .before .before in
-    none-over _ _ _ (at-digit-count .digit-count .ensures) (over _ _ (c .before .match .keys2) (at-digit-total .digit-total .ensures))
+    let t = c .before .before in
+    none-over _ _ _ (t .before .before .before .before .digit-count .ensures) (over _ _ (c .before .match .keys2) (t .digit-total .ensures))
 
 add-t10 : tie.Need-add-t10
 add-t10 c =
-    let at-if1 = c .before .before .before .before .before .before in
-    let at-digit-count = at-if1 .before in
-    let start = at-digit-count .before .before in
-    let a = start .args in
-    let n = at-digit-count .digit-count .ensures in
-    let some = at-if1 .if1 .left in
-    omega (arith, n, some, count-within (drop (a .at) (a .line .now)), length-drop (a .at) (a .line .now), start .good)
+    let f = c .before .before .before .before .before .before in
+    let s = f .before .before .before in
+    let d = drop (s .args .at) (s .args .line .now) in
+    omega (arith, f .before .digit-count .ensures, f .if1 .left, count-within d, length-drop (s .args .at) (s .args .line .now), s .good)
 
 returns-4 : tie.Need-returns-4
 returns-4 c =
-    let a = c .before .before .before .before .before .before .before .before .before .args in
-    let s = sum (c .before .v .given .0 .0) _ (sym (c .before .v .given .1) ∙ c .before .before .before .digit-total .ensures) in
-    let some-digit = c .before .before .before .before .before .before .if1 .left in
-    some (a .line .now) (a .at) _ (c .before .before .before .before .before .before .before .digit-count .ensures) (omega arith)
-    (λ zero. ⊎-elim (λ w. w .1 .left) (λ w. absurd (w .left zero)) (c .before .before .before .before .if2 .came)) _ (s .0) (s .1)
+    let t = c .before .before .before in
+    let f = t .before .before .before in
+    let s = sum (c .before .v .given .0 .0) _ (sym (c .before .v .given .1) ∙ t .digit-total .ensures) in
+    let some-digit = f .if1 .left in
+    some _ _ _ (f .before .digit-count .ensures) (omega arith)
+    (λ zero. ⊎-elim (λ w. w .1 .left) (λ w. absurd (w .left zero)) (t .before .if2 .came)) _ (s .0) (s .1)
 
 pub number-at-spec : {M : Type 1} → statement M
 number-at-spec =

@@ -8,10 +8,8 @@ use Rattle.bench_printing.proofs.print_one.Tie as tie
 returns : tie.Need-returns
 unfolding spaced
 returns c =
-    let at-append-byte = c .before .before in
-    let at-append-after = at-append-byte .before .before .before .before in
-    let at-append-word = at-append-after .before .before .before .before in
-    fills _ _ _ _ (then (then (at-append-word .append-word .ensures) (at-append-after .append-after .ensures)) (at-append-byte .append-byte .ensures))
+    let a = c .before .before .before .before .before .before in
+    fills _ _ _ _ (then (then (a .before .before .before .before .append-word .ensures) (a .append-after .ensures)) (c .before .before .append-byte .ensures))
 
 pub print-one-spec : {M : Type 1} → statement M
 print-one-spec =

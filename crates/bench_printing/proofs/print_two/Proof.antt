@@ -8,12 +8,10 @@ use Rattle.bench_printing.proofs.print_two.Tie as tie
 returns : tie.Need-returns
 unfolding spaced
 returns c =
-    let at-append-byte = c .before .before in
-    let at-append-after2 = at-append-byte .before .before .before .before in
-    let at-append-after = at-append-after2 .before .before .before .before in
-    let at-append-word = at-append-after .before .before .before .before in
-    let first = then (at-append-word .append-word .ensures) (at-append-after .append-after .ensures) in
-    fills _ _ _ _ (then (then first (at-append-after2 .append-after2 .ensures)) (at-append-byte .append-byte .ensures))
+    let b = c .before .before .before .before .before .before in
+    let a = b .before .before .before .before in
+    fills _ _ _ _ (then (then (then (a .before .before .before .before .append-word .ensures) (a .append-after .ensures)) (b .append-after2 .ensures))
+    (c .before .before .append-byte .ensures))
 
 pub print-two-spec : {M : Type 1} → statement M
 print-two-spec =

@@ -1,4 +1,5 @@
--- The first event of the log is written and leaves, so many times; the measure is how many are left.
+-- The first event of the log is written and leaves, so many times; the measure is how many are left. The loop ends where the log has no more events
+-- (`writing-stops`), or after that many (`writing-ends`).
 use mathlib.Core.Path.{_≡_, refl, ap, _∙_}
 use Prim.Native.Nat.{_-_, _≤_}
 use native.Mathlib.Omega.{arith}
@@ -18,59 +19,41 @@ Inv-loop b₀ n c count out₀ k₀ b out k = (k ≤ count) × (length out ≡ l
 abbrev μ-loop : tie.MeasureT-loop
 μ-loop b₀ n c count out₀ k₀ b out k = count - k
 
+-- the place of the loop, seen from its look into the log
+abbrev around : tie.After-slot-in Inv-loop μ-loop → tie.At-loop Inv-loop μ-loop
+around c = c .before .before .before .before .before
+
 loop-holds : tie.Need-loop-holds Inv-loop μ-loop
-loop-holds c =
-    let args = c .before .before .args in
-    (omega arith, refl, after-header-same (args .b .now), writing-start (args .n) (args .c) (args .b .now) (args .count) (args .out .now))
+loop-holds c = (omega arith, refl, after-header-same _, writing-start _ _ _ _ _)
 
 returns : tie.Need-returns Inv-loop μ-loop
 returns c =
-    let l = c .before .before .before .before .before .before in
-    let args = l .before .before .before .args in
-    let inv = l .loop .inv in
-    let more = c .before .before .before .before .before .loop-test .taken in
-    let none = no-slot (c .before .slot-in .ensures) (c .if1 .taken) in (
+    let i = c .before in
+    let inv = around i .loop .inv in (
       inv .2,
-      writing-stops (args .n) (args .c) (args .b .now) (args .count) (args .out .now) (inv .3) more (c .before .before .before .next-logged .ensures) none,
+      writing-stops _ _ _ _ _ (inv .3) (i .before .before .before .before .loop-test .taken) (i .before .before .next-logged .ensures)
+          (no-slot (i .slot-in .ensures) (c .if1 .taken)),
     )
-
-cast-write-event : tie.Need-cast-write-event Inv-loop μ-loop
-cast-write-event c = omega arith
-
-mul-write-event : tie.Need-mul-write-event Inv-loop μ-loop
-mul-write-event c = omega arith
-
-add-k : tie.Need-add-k Inv-loop μ-loop
-add-k c = omega arith
-
-loop-less : tie.Need-loop-less Inv-loop μ-loop
-loop-less c = omega arith
 
 loop-again : tie.Need-loop-again Inv-loop μ-loop
 loop-again c =
     let w = c .before .before .before .before .before .before in
-    let i = w .before .before .before .before in
-    let l = i .before .before .before .before .before .before in
-    let args = l .before .before .before .args in
-    let inv = l .loop .inv in
-    let more = i .before .before .before .before .before .loop-test .taken in
-    let put = w .write-event .ensures in
+    let f = w .before .before .before .before in
+    let i = f .before in
+    let inv = around i .loop .inv in
+    let more = i .before .before .before .before .loop-test .taken in
     let gone = c .before .before .release .ensures in (
       omega (arith, more),
-      ap length put ∙ length-event _ _ _ ∙ inv .1,
+      ap length (w .write-event .ensures) ∙ length-event _ _ _ ∙ inv .1,
       after-header-on (inv .2) (gone .0),
-      writing-on (args .n) (args .c) (args .b .now) (args .count) (args .out .now) (inv .3) more
-          (i .before .before .before .next-logged .ensures)
-          (slot-event (i .before .slot-in .ensures) _ (i .if1 .left) (w .before .before .event .ensures))
-          put
-          (gone .1),
+      writing-on _ _ _ _ _ (inv .3) more (i .before .before .next-logged .ensures)
+          (slot-event (i .slot-in .ensures) _ (f .if1 .left) (w .before .before .event .ensures)) (w .write-event .ensures) (gone .1),
     )
 
 returns-2 : tie.Need-returns-2 Inv-loop μ-loop
 returns-2 c =
-    let args = c .before .before .before .before .args in
     let inv = c .before .loop .inv in
-    (inv .2, writing-ends (args .n) (args .c) (args .b .now) (args .count) (args .out .now) (inv .3) (omega (arith, inv .0, c .loop-test .left)))
+    (inv .2, writing-ends _ _ _ _ _ (inv .3) (omega (arith, inv .0, c .loop-test .left)))
 
 pub write-first-spec : {M : Type 1} → statement M
 write-first-spec =
@@ -85,12 +68,12 @@ write-first-spec =
     (λ c. search needs)
     returns
     (λ c κs. search needs)
-    cast-write-event
-    mul-write-event
+    (λ c. omega arith)
+    (λ c. omega arith)
     (λ c κs. search needs)
     (λ c κs. search needs)
-    add-k
-    loop-less
+    (λ c. omega arith)
+    (λ c. omega arith)
     loop-again
     (λ c. search needs)
     (λ c. search needs)

@@ -1,4 +1,4 @@
--- A run event leaves; where the code does nothing, the node is no event's.
+-- A run event leaves (`release-made`); where the code does nothing, the node is no event's (`release-none`).
 use borrow.Author.Needs.{needs}
 use Rattle.engine_index.proofs.Changes.FromCalls.{release-made}
 use Rattle.engine_index.proofs.Places.Refusals.{found-range, refused-slot, release-none}
@@ -7,22 +7,15 @@ use Rattle.engine_freeing.proofs.release.Tie as tie
 
 returns : tie.Need-returns
 returns c =
-    let back = c .before .before .before .before .before .before .before .before .before .before .before .before in
-    let free = c .before .before .free in
-    let unlink = c .before .before .before .before .before .before .unlink in
-    let nodes = c .before .before .before .before .before .before .before .nodes in
-    let log = c .before .before .before .before .before .before .before .before .log in
-    let if1 = c .before .before .before .before .before .before .before .before .before .before .if1 in
-    let slot-in = c .before .before .before .before .before .before .before .before .before .before .before .slot-in in
-    let args = back .before .before .args in
-    let range = found-range (args .n) (args .c) (args .b .now) (args .x) (slot-in .ensures) (if1 .taken) in
-    release-made (args .n) (args .c) (args .b .now) (args .x) (slot-in .ensures) (if1 .taken) (log .ensures) (nodes .ensures (range .0) (range .1)) (unlink .ensures) (free .ensures)
+    let u = c .before .before .before .before .before .before in
+    let f = u .before .before .before .before in
+    let a = f .before .before .before .before .args in
+    let r = found-range (a .n) (a .c) (a .b .now) (a .x) (f .before .slot-in .ensures) (f .if1 .taken) in
+    release-made _ _ _ _ (f .before .slot-in .ensures) (f .if1 .taken) (u .before .before .log .ensures) (u .before .nodes .ensures (r .0) (r .1))
+    (u .unlink .ensures) (c .before .before .free .ensures)
 
 returns-2 : tie.Need-returns-2
-returns-2 c =
-    let slot-in = c .before .slot-in in
-    let args = c .before .before .before .before .args in
-    release-none (args .n) (args .c) (args .b .now) (args .x) (refused-slot (args .n) (args .c) (args .b .now) (args .x) (slot-in .ensures) (c .if1 .left))
+returns-2 c = release-none _ _ _ _ (refused-slot _ _ (c .before .before .before .before .args .b .now) _ (c .before .slot-in .ensures) (c .if1 .left))
 
 pub release-spec : {M : Type 1} → statement M
 release-spec =

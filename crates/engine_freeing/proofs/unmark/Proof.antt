@@ -1,4 +1,4 @@
--- An event is unrun again; where the code does nothing, the node is no event's.
+-- An event is unrun again (`unmark-made`); where the code does nothing, the node is no event's (`unmark-none`).
 use native.Mathlib.Omega.{arith}
 use borrow.Author.Needs.{needs}
 use Rattle.engine_index.proofs.Changes.FromCalls.{unmark-made}
@@ -8,37 +8,23 @@ use Rattle.engine_freeing.proofs.unmark.Tie as tie
 
 returns : tie.Need-returns
 returns c =
-    let back = c .before .before .before .before .before .before .before .before .before .before .before .before in
-    let back2 = back .before .before .before .before .before .before .before .before .before .before .before .before in
-    let insert-after = c .before .before .insert-after in
-    let unlink2 = c .before .before .before .before .before .before .unlink2 in
-    let unlink = c .before .before .before .before .before .before .before .before .before .before .unlink in
-    let log = c .before .before .before .before .before .before .before .before .before .before .before .log in
-    let set-number = back .before .before .before .set-number in
-    let nodes = back .before .before .before .before .before .nodes in
-    let links = back .before .before .before .before .before .before .links in
-    let event = back .before .before .before .before .before .before .before .before .event in
-    let if1 = back .before .before .before .before .before .before .before .before .before .before .if1 in
-    let slot-in = back .before .before .before .before .before .before .before .before .before .before .before .slot-in in
-    let args = back2 .before .before .args in
-    let range = found-range (args .n) (args .c) (args .b .now) (args .x) (slot-in .ensures) (if1 .taken) in
-    unmark-made (args .n) (args .c) (args .b .now) (args .x) (slot-in .ensures) (if1 .taken) (event .ensures) (links .ensures) (nodes .ensures (range .0) (range .1))
-    (set-number .ensures .0 (omega arith)) (log .ensures) (unlink .ensures) (unlink2 .ensures) (insert-after .ensures)
+    let u = c .before .before .before .before .before .before .before .before .before .before in
+    let k = u .before .before .before .before .before .before .before in
+    let f = k .before .before .before .before .before in
+    let a = f .before .before .before .before .args in
+    let r = found-range (a .n) (a .c) (a .b .now) (a .x) (f .before .slot-in .ensures) (f .if1 .taken) in
+    unmark-made _ _ _ _ (f .before .slot-in .ensures) (f .if1 .taken) (k .before .before .before .event .ensures) (k .before .links .ensures)
+    (k .nodes .ensures (r .0) (r .1)) (u .before .before .before .before .before .set-number .ensures .0 (omega arith)) (u .before .log .ensures)
+    (u .unlink .ensures) (c .before .before .before .before .before .before .unlink2 .ensures) (c .before .before .insert-after .ensures)
 
 returns-2 : tie.Need-returns-2
 returns-2 c =
-    let event = c .before .event in
-    let if1 = c .before .before .before .if1 in
-    let slot-in = c .before .before .before .before .slot-in in
-    let args = c .before .before .before .before .before .before .before .args in
-    unmark-none (args .n) (args .c) (args .b .now) (args .x)
-    (refused-target (args .n) (args .c) (args .b .now) (args .x) (slot-in .ensures) (if1 .taken) (event .ensures) (c .if2 .left))
+    let f = c .before .before .before in
+    unmark-none _ _ _ _ (refused-target _ _ _ _ (f .before .slot-in .ensures) (f .if1 .taken) (c .before .event .ensures) (c .if2 .left))
 
 returns-3 : tie.Need-returns-3
 returns-3 c =
-    let slot-in = c .before .slot-in in
-    let args = c .before .before .before .before .args in
-    unmark-none (args .n) (args .c) (args .b .now) (args .x) (λ _. refused-slot (args .n) (args .c) (args .b .now) (args .x) (slot-in .ensures) (c .if1 .left))
+    unmark-none _ _ _ _ (λ _. refused-slot _ _ (c .before .before .before .before .args .b .now) _ (c .before .slot-in .ensures) (c .if1 .left))
 
 pub unmark-spec : {M : Type 1} → statement M
 unmark-spec =

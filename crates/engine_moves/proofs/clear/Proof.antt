@@ -1,4 +1,5 @@
--- A new calendar, and an index with all slots free.
+-- A new calendar, and an index with all slots free (`cleared`); where the code does nothing, the bytes have no room (`clears-fits`) or there is no station
+-- (`clears-station`).
 use mathlib.Core.Path.{refl}
 use native.Mathlib.Omega.{arith}
 use Rattle.engine_events.proofs.Fitting.{fits-true}
@@ -7,31 +8,30 @@ use borrow.Author.Needs.{needs}
 use Rattle.engine_moves.proofs.clear.Statement.{statement}
 use Rattle.engine_moves.proofs.clear.Tie as tie
 
+-- the code's start
+abbrev start : tie.Then1 → tie.Start
+start c = c .before .before .before .before
+
 part-open-end : tie.Need-part-open-end
 part-open-end c =
-    let args = c .before .before .before .before .before .args in
-    omega (arith, fits-true (args .n) (args .c) _ (c .before .before .fits2 .ensures) (c .before .if1 .taken))
+    let f = c .before in
+    omega (arith, fits-true (start f .args .n) (start f .args .c) _ (f .before .fits2 .ensures) (f .if1 .taken))
 
 returns : tie.Need-returns
 returns c =
-    let back8 = c .before .before .before .before .before .before .before .before in
-    let args = back8 .before .before .before .before .before .args in
-    let fits = back8 .before .before .fits2 in
-    let opens = c .before .before .before .before .before .before .«open» in
-    let clear = c .before .before .clear in
-    let f = fits-true (args .n) (args .c) _ (fits .ensures) (back8 .before .if1 .taken) in
-    cleared (args .n) (args .c) (args .width) _ _ _ (back8 .if2 .taken) (f .0) (f .1) (f .2) refl (opens .kept .1 .1 .0) (opens .ensures)
-    (clear .ensures .0) (clear .ensures .1)
+    let o = c .before .before .before .before .before .before in
+    let t = c .before .before .before .before .before .before .before .before in
+    let f = t .before in
+    let a = start f .args in
+    let r = fits-true (a .n) (a .c) _ (f .before .fits2 .ensures) (f .if1 .taken) in
+    cleared _ _ _ _ _ _ (t .if2 .taken) (r .0) (r .1) (r .2) refl (o .«open» .kept .1 .1 .0) (o .«open» .ensures)
+    (c .before .before .clear .ensures .0) (c .before .before .clear .ensures .1)
 
 returns-2 : tie.Need-returns-2
-returns-2 c =
-    let args = c .before .before .before .before .before .args in
-    clears-station (args .n) (args .c) (args .width) _ (c .if2 .left)
+returns-2 c = clears-station _ _ _ _ (c .if2 .left)
 
 returns-3 : tie.Need-returns-3
-returns-3 c =
-    let args = c .before .before .before .before .args in
-    clears-fits (args .n) (args .c) (args .width) _ (c .before .fits2 .ensures) (c .if1 .left)
+returns-3 c = clears-fits _ _ _ _ (c .before .fits2 .ensures) (c .if1 .left)
 
 pub clear-spec : {M : Type 1} → statement M
 clear-spec =

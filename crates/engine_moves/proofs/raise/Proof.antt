@@ -1,4 +1,4 @@
--- The calendar takes the new floor.
+-- The calendar takes the new floor (`raised`); where the code does nothing, the bytes hold no queue of this size (`raises-none`).
 use mathlib.Core.Path.{refl}
 use native.Mathlib.Omega.{arith}
 use Rattle.engine_events.proofs.Fitting.{fits-true}
@@ -7,28 +7,28 @@ use borrow.Author.Needs.{needs}
 use Rattle.engine_moves.proofs.raise.Statement.{statement}
 use Rattle.engine_moves.proofs.raise.Tie as tie
 
+-- the code's start
+abbrev start : tie.Then1 → tie.Start
+start c = c .before .before .before .before
+
 part-advance-end : tie.Need-part-advance-end
 part-advance-end c =
-    let args = c .before .before .before .before .before .args in
-    omega (arith, fits-true (args .n) (args .c) _ (c .before .before .fits2 .ensures) (c .before .if1 .taken))
+    let f = c .before in
+    omega (arith, fits-true (start f .args .n) (start f .args .c) _ (f .before .fits2 .ensures) (f .if1 .taken))
 
 returns : tie.Need-returns
 returns c =
-    let args = c .before .before .before .before .before .before .before .before .before .args in
-    let advance = c .before .before .advance in
-    let f = fits-true (args .n) (args .c) _ (c .before .before .before .before .before .before .fits2 .ensures) (c .before .before .before .before .before .if1 .taken) in
-    let some = c .before .before .before .before .if2 .taken in
-    raised (args .n) (args .c) (args .floor) _ _ refl (omega (arith, f, some)) (advance .kept .0) (advance .ensures)
+    let t = c .before .before .before .before in
+    let f = t .before in
+    let a = start f .args in
+    raised _ _ _ _ _ refl (omega (arith, fits-true (a .n) (a .c) _ (f .before .fits2 .ensures) (f .if1 .taken), t .if2 .taken))
+    (c .before .before .advance .kept .0) (c .before .before .advance .ensures)
 
 returns-2 : tie.Need-returns-2
-returns-2 c =
-    let args = c .before .before .before .before .before .args in
-    raises-none (args .n) (args .c) (args .floor) _ (nothing-station (args .n) (args .c) _ (c .if2 .left))
+returns-2 c = raises-none _ _ _ _ (nothing-station _ _ _ (c .if2 .left))
 
 returns-3 : tie.Need-returns-3
-returns-3 c =
-    let args = c .before .before .before .before .args in
-    raises-none (args .n) (args .c) (args .floor) _ (nothing-fits (args .n) (args .c) _ (c .before .fits2 .ensures) (c .if1 .left))
+returns-3 c = raises-none _ _ _ _ (nothing-fits _ _ _ (c .before .fits2 .ensures) (c .if1 .left))
 
 pub raise-spec : {M : Type 1} → statement M
 raise-spec =

@@ -1,4 +1,4 @@
--- An event has run; where the code does nothing, the bytes hold no queue or the node is no event's.
+-- An event has run (`run-made`); where the code does nothing, the bytes hold no queue or the node is no event's (`run-none`).
 use native.Mathlib.Omega.{arith}
 use Rattle.engine_moves.proofs.FromCalls.CallsOfChanges.{tell-room}
 use Rattle.engine_moves.proofs.FromCalls.NoneHeld.{nowhere-fits, nowhere-slot, nowhere-target}
@@ -7,71 +7,68 @@ use borrow.Author.Needs.{needs}
 use Rattle.engine_moves.proofs.run.Statement.{statement}
 use Rattle.engine_moves.proofs.run.Tie as tie
 
+-- ---- places of the code, each seen from a later one
+
+abbrev start : tie.Then1 → tie.Start
+start c = c .before .before .before .before
+
+abbrev fitting : tie.After-slot-in → tie.Then1
+fitting c = c .before .before
+
+abbrev found : tie.After-event → tie.Then2
+found c = c .before .before
+
+abbrev at-station : tie.After-set-number → tie.Then3
+at-station c = c .before .before .before .before
+
+abbrev sent : tie.After-mark → tie.After-set-number
+sent c = c .before .before .before .before .before .before .before .before
+
+-- ---- the event has run
+
 tell-requires : tie.Need-tell-requires
 tell-requires c κs =
-    let set-state = c .before .before .before .set-state in
-    let mark = c .before .before .before .before .before .before .before .mark in
-    let set-number2 = c .before .before .before .before .before .before .before .before .before .before .before .set-number2 in
-    let back = c .before .before .before .before .before .before .before .before .before .before .before .before in
-    let set-number = back .before .before .before .set-number in
-    let if3 = back .before .before .before .before .before .before .before .if3 in
-    let event = back .before .before .before .before .before .before .before .before .event in
-    let slot-in = back .before .before .before .before .before .before .before .before .before .before .before .slot-in in
-    let back2 = back .before .before .before .before .before .before .before .before .before .before .before .before in
-    let if1 = back2 .before .if1 in
-    let fits2 = back2 .before .before .fits2 in
-    let args = back2 .before .before .before .before .before .args in
-    tell-room (args .n) (args .c) (event .result .target) (fits2 .ensures) (if1 .taken) (if3 .taken)
-    (run-size (args .n) (args .c) (args .x) (args .after) (args .first) (args .second) (slot-in .result) (event .result .target) _
-    (set-number .ensures .0 (omega arith)) (set-number2 .ensures .0 (omega arith)) (mark .ensures .0) (set-state .ensures))
+    let m = c .before .before .before .before .before .before .before in
+    let i = sent m in
+    let t = at-station i in
+    let f = found (t .before) in
+    let g = fitting (f .before) in
+    tell-room _ _ _ (g .before .fits2 .ensures) (g .if1 .taken) (t .if3 .taken)
+    (run-size _ _ (start g .args .x) _ _ _ (f .before .slot-in .result) _ _ (i .set-number .ensures .0 (omega arith))
+    (m .before .before .before .before .set-number2 .ensures .0 (omega arith)) (m .mark .ensures .0) (c .before .before .before .set-state .ensures))
 
 returns : tie.Need-returns
 returns c =
-    let tell = c .before .before .tell in
-    let set-state = c .before .before .before .before .before .before .set-state in
-    let mark = c .before .before .before .before .before .before .before .before .before .before .mark in
-    let back = c .before .before .before .before .before .before .before .before .before .before .before .before in
-    let set-number2 = back .before .before .set-number2 in
-    let set-number = back .before .before .before .before .before .before .set-number in
-    let state = back .before .before .before .before .before .before .before .before .state in
-    let if3 = back .before .before .before .before .before .before .before .before .before .before .if3 in
-    let event = back .before .before .before .before .before .before .before .before .before .before .before .event in
-    let back2 = back .before .before .before .before .before .before .before .before .before .before .before .before in
-    let if2 = back2 .before .if2 in
-    let slot-in = back2 .before .before .slot-in in
-    let slice-known = back2 .before .before .before .before .before .before .before .slice-known in
-    let args = back2 .before .before .before .before .before .before .before .before .args in
-    let fits = back2 .before .before .before .before .before .before .before .before .fits in
-    run-made (args .n) (args .c) (args .x) (args .after) (args .first) (args .second) (event .result) (state .result)
-    (omega (arith, fits .first)) (omega (arith, fits .second)) (slot-in .ensures .sound (if2 .taken) .1) (event .ensures) (if3 .taken) (state .ensures)
-    (λ j. omega (arith, slice-known .given j)) (set-number .ensures .0 (omega arith)) (set-number2 .ensures .0 (omega arith)) (mark .ensures)
-    (set-state .ensures) (tell .ensures)
+    let m = c .before .before .before .before .before .before .before .before .before .before in
+    let i = sent m in
+    let t = at-station i in
+    let f = found (t .before) in
+    let g = fitting (f .before) in
+    let r = start g .fits in
+    run-made _ _ _ _ _ _ _ _ (omega (arith, r .first))
+    (omega (arith, r .second)) (f .before .slot-in .ensures .sound (f .if2 .taken) .1) (t .before .event .ensures) (t .if3 .taken)
+    (i .before .before .state .ensures) (λ j. omega (arith, g .before .before .before .slice-known .given j)) (i .set-number .ensures .0 (omega arith))
+    (m .before .before .before .before .set-number2 .ensures .0 (omega arith)) (m .mark .ensures)
+    (c .before .before .before .before .before .before .set-state .ensures) (c .before .before .tell .ensures)
+
+-- ---- nothing is done
 
 returns-2 : tie.Need-returns-2
 returns-2 c =
-    let if3 = c .if3 in
-    let event = c .before .event in
-    let if2 = c .before .before .before .if2 in
-    let slot-in = c .before .before .before .before .slot-in in
-    let args = c .before .before .before .before .before .before .before .before .before .before .args in
-    run-none (args .n) (args .c) (args .x) (args .after) (args .first) (args .second) _
-    (nowhere-target (args .n) (args .c) (args .x) _ (slot-in .ensures .sound (if2 .taken) .1) (event .ensures) (if3 .left))
+    let f = found (c .before) in
+    let a = start (fitting (f .before)) .args in
+    run-none _ _ _ _ (a .first) (a .second) _
+    (nowhere-target _ _ _ _ (f .before .slot-in .ensures .sound (f .if2 .taken) .1) (c .before .event .ensures) (c .if3 .left))
 
 returns-3 : tie.Need-returns-3
 returns-3 c =
-    let if2 = c .if2 in
-    let slot-in = c .before .slot-in in
-    let args = c .before .before .before .before .before .before .before .args in
-    run-none (args .n) (args .c) (args .x) (args .after) (args .first) (args .second) _
-    (nowhere-slot (args .n) (args .c) (args .x) _ (slot-in .ensures) (if2 .left))
+    let a = start (fitting (c .before)) .args in
+    run-none _ _ _ _ (a .first) (a .second) _ (nowhere-slot _ _ _ _ (c .before .slot-in .ensures) (c .if2 .left))
 
 returns-4 : tie.Need-returns-4
 returns-4 c =
-    let if1 = c .if1 in
-    let fits2 = c .before .fits2 in
-    let args = c .before .before .before .before .args in
-    run-none (args .n) (args .c) (args .x) (args .after) (args .first) (args .second) _
-    (nowhere-fits (args .n) (args .c) (args .x) _ (fits2 .ensures) (if1 .left))
+    let a = c .before .before .before .before .args in
+    run-none _ _ _ _ (a .first) (a .second) _ (nowhere-fits _ _ _ _ (c .before .fits2 .ensures) (c .if1 .left))
 
 pub run-spec : {M : Type 1} → statement M
 run-spec =

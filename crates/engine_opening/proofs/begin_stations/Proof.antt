@@ -1,4 +1,4 @@
--- Each turn begins one station more.
+-- Each turn begins one station more (`begun-on`), until all have begun (`begun-all`).
 use Prim.Native.Nat.{_-_, _≤_}
 use native.Mathlib.Omega.{arith}
 use borrow.Author.Needs.{needs}
@@ -12,27 +12,15 @@ Inv-loop plan b₀ n s₀ b s = (s ≤ n) × BegunTo plan n s b₀ b
 abbrev μ-loop : tie.MeasureT-loop
 μ-loop plan b₀ n s₀ b s = n - s
 
-loop-holds : tie.Need-loop-holds Inv-loop μ-loop
-loop-holds c = (omega arith, begun-none _ _ _)
-
-add-s : tie.Need-add-s Inv-loop μ-loop
-add-s c = omega arith
-
-loop-less : tie.Need-loop-less Inv-loop μ-loop
-loop-less c = omega arith
-
 loop-again : tie.Need-loop-again Inv-loop μ-loop
 loop-again c =
-    let given = c .before .before .before .before .before .before .before .before .before .before .before .before .shared-slice-known .given in
-    let loop = c .before .before .before .before .before .before .before .before .before .before .loop in
-    let test = c .before .before .before .before .before .before .before .before .before .loop-test in
-    let config = c .before .before .before .before .before .before .before .before .config-at in
-    let set-config = c .before .before .before .before .before .before .set-config in
-    let set-state = c .before .before .set-state in
-    (omega arith, begun-on (loop .inv .1) (test .taken) (λ j. omega (arith, given j)) (config .ensures) (set-config .ensures) (set-state .ensures))
-
-same-length : tie.Need-same-length Inv-loop μ-loop
-same-length c = c .before .loop .inv .1 .size
+    let p = c .before .before .before .before .before .before in
+    let t = p .before .before .before in
+    let given = t .before .before .before .shared-slice-known .given in (
+      omega arith,
+      begun-on (t .before .loop .inv .1) (t .loop-test .taken) (λ j. omega (arith, given j)) (p .before .before .config-at .ensures)
+          (p .set-config .ensures) (c .before .before .set-state .ensures),
+    )
 
 returns : tie.Need-returns Inv-loop μ-loop
 returns c = begun-all (omega (arith, c .loop-test .left)) (c .before .loop .inv .1)
@@ -43,12 +31,12 @@ begin-stations-spec =
     (tie.spec
     Inv-loop
     μ-loop
-    loop-holds
+    (λ c. (omega arith, begun-none _ _ _))
     (λ c κs. search needs)
     (λ c κs. search needs)
     (λ c κs. search needs)
-    add-s
-    loop-less
+    (λ c. omega arith)
+    (λ c. omega arith)
     loop-again
-    same-length
+    (λ c. c .before .loop .inv .1 .size)
     returns)

@@ -1,6 +1,6 @@
 -- undo, undo_from and remove_below call each other. Each undo lowers the number of run slots, whatever the bytes are: that is the measure. What the bytes
--- hold is told by the laws of Answers and Turns.
-use mathlib.Core.Path.{_≡_, refl}
+-- hold is told by the laws of FromCalls, one for each way out of undo and remove_below, and of UndoTurns, for the turns of undo_from and its ends.
+use mathlib.Core.Path.{refl}
 use Prim.Native.Nat.{ℕ, _+_, _*_, _≤_, _<_}
 use native.Mathlib.Omega.{arith}
 use borrow.Author.Needs.{needs}
@@ -66,20 +66,18 @@ module _ (t : ℕ) where
   remove-below-calls = (event-reads.Asked, event-reads.Learnt, undo-from-below t, undo-from.Post, discard-reads.Asked, discard-reads.Learnt)
 
   remove-below-returns : remove-below-lts.Need-returns remove-below-calls (remove-below-at t) remove-below.Post
-  remove-below-returns c =
-      let z : c .before .before .args .x ≡ 0 = omega arith in
-      (after-header-same _, (omega arith, ((λ _. (refl, refl)), removes-none _ _ _ _ _ z)))
-
-  remove-below-undo-from-requires : remove-below-lts.Need-undo-from-requires remove-below-calls (remove-below-at t) remove-below.Post
-  remove-below-undo-from-requires c κs = (omega arith, (omega arith, omega arith))
+  remove-below-returns c = (after-header-same _, (omega arith, ((λ _. (refl, refl)), removes-none _ _ _ _ _ (omega arith))))
 
   remove-below-returns-2 : remove-below-lts.Need-returns-2 remove-below-calls (remove-below-at t) remove-below.Post
   remove-below-returns-2 c =
-      let u = c .before .before .before .before .before .before .undo-from .ensures in
-      let d = c .before .before .discard .ensures in
-      let e = c .before .before .before .before .before .before .before .before .before .event .ensures in (
+      let p = c .before .before .before .before .before .before in
+      let u = p .undo-from .ensures in
+      let d = c .before .before .discard .ensures in (
         after-header-on (u .0) (d .0),
-        (omega (arith, u .1 .0, d .1 .0), ((λ z. absurd (omega (arith, z))), removes-lower _ _ _ _ _ e (u .1 .1) (d .1 .1))),
+        (
+          omega (arith, u .1 .0, d .1 .0),
+          ((λ z. absurd (omega (arith, z))), removes-lower _ _ _ _ _ (p .before .before .before .event .ensures) (u .1 .1) (d .1 .1)),
+        ),
       )
 
   remove-below-returns-3 : remove-below-lts.Need-returns-3 remove-below-calls (remove-below-at t) remove-below.Post
@@ -110,41 +108,47 @@ module _ (t : ℕ) where
 
   undo-remove-below-requires : undo-lts.Need-remove-below-requires undo-calls (undo-at t) undo.Post
   undo-remove-below-requires c κs =
-      let r = c .before .before .before .before .unrun .ensures in
-      (omega (arith, r .1 .1 .0 (cc)), (omega arith, omega arith))
+      let p = c .before in
+      (omega (arith, p .before .before .before .unrun .ensures .1 .1 .0 (p .if2 .taken)), (omega arith, omega arith))
 
   undo-remove-below-requires-2 : undo-lts.Need-remove-below-requires-2 undo-calls (undo-at t) undo.Post
   undo-remove-below-requires-2 c κs =
       let r = c .before .before .before .before .before .before .before .before .unrun .ensures in
-      (omega (arith, r .1 .1 .0 (cc), c .before .before .before .remove-below .ensures .1 .0), (omega arith, omega arith))
+      let f = c .before .before .before .remove-below .ensures in
+      (omega (arith, r .1 .1 .0 (c .before .before .before .before .before .if2 .taken), f .1 .0), (omega arith, omega arith))
 
-  undo-add-result : undo-lts.Need-add-result undo-calls (undo-at t) undo.Post
-  undo-add-result c =
-      let o = c .before .before .before .before .before .before .before .before .before .before .before .before .before .before .before .before .before .before .before .before .before in
-      let r = c .before .before .before .before .before .before .before .before .before .before .before .unrun .ensures in
-      let f = c .before .before .before .before .before .before .remove-below .ensures in
-      omega (arith, r .1 .1 .0 (cc), f .1 .0, runs-few (o .args .n) (o .args .b .now) (o .args .c))
+  -- the first send is removed, seen from the end
+  abbrev undo-first : undo-lts.After-slice-known4 undo-calls (undo-at t) undo.Post → undo-lts.After-remove-below undo-calls (undo-at t) undo.Post
+  undo-first c = c .before .before .before .before .before .before
 
-  undo-add-result-2 : undo-lts.Need-add-result-2 undo-calls (undo-at t) undo.Post
-  undo-add-result-2 c =
-      let o = c .before .before .before .before .before .before .before .before .before .before .before .before .before .before .before .before .before .before .before .before .before in
-      let r = c .before .before .before .before .before .before .before .before .before .before .before .unrun .ensures in
-      let f = c .before .before .before .before .before .before .remove-below .ensures in
-      let g = c .before .before .remove-below2 .ensures in
-      omega (arith, r .1 .1 .0 (cc), f .1 .0, g .1 .0, runs-few (o .args .n) (o .args .b .now) (o .args .c))
+  -- the start, seen from there
+  abbrev undo-start : undo-lts.After-remove-below undo-calls (undo-at t) undo.Post → undo-lts.Start undo-calls (undo-at t) undo.Post
+  undo-start c = c .before .before .before .before .before .before .before .before .before .before .before .before .before .before .before
+
+  -- no more are undone than there are slots
+  undo-few : (c : undo-lts.After-slice-known4 undo-calls (undo-at t) undo.Post)
+      → 1 + undo-first c .remove-below .result + c .before .before .remove-below2 .result ≤ undo-start (undo-first c) .args .c
+  undo-few c =
+      let f = undo-first c in
+      let p = f .before .before in
+      let a = undo-start f .args in
+      let r = p .before .before .before .unrun .ensures .1 .1 .0 (p .if2 .taken) in
+      omega (arith, f .remove-below .ensures .1 .0, c .before .before .remove-below2 .ensures .1 .0, runs-few (a .n) (a .b .now) (a .c))
 
   undo-returns-2 : undo-lts.Need-returns-2 undo-calls (undo-at t) undo.Post
   undo-returns-2 c =
-      let r = c .before .before .before .before .before .before .before .before .before .before .before .unrun .ensures in
-      let f = c .before .before .before .before .before .before .remove-below .ensures in
-      let g = c .before .before .remove-below2 .ensures in
-      let e = c .before .before .before .before .before .before .before .before .before .before .before .before .before .before .before .before .before .before .event .ensures in
-      let k = c .before .before .before .before .before .before .before .before .before .before .before .before .before .before .before .first-send .ensures in
-      let m = c .before .before .before .before .before .before .before .before .before .before .before .before .before .second-send .ensures in (
-        after-header-on (r .0) (after-header-on (f .0) (g .0)),
+      let f = undo-first c in
+      let p = f .before .before in
+      let w = p .before .before .before in
+      let r = w .unrun .ensures in
+      let k = f .remove-below .ensures in
+      let m = c .before .before .remove-below2 .ensures in (
+        after-header-on (r .0) (after-header-on (k .0) (m .0)),
         (
-          omega (arith, r .1 .1 .0 (cc), f .1 .0, g .1 .0),
-          undoes-both _ _ _ _ e k m (r .1 .1 .1) (f .1 .1 .0) (f .1 .1 .1) (g .1 .1 .0) (g .1 .1 .1),
+          omega (arith, r .1 .1 .0 (p .if2 .taken), k .1 .0, m .1 .0),
+          undoes-both _ _ _ _ (w .before .before .before .before .before .before .before .event .ensures)
+              (w .before .before .before .before .first-send .ensures) (w .before .before .second-send .ensures)
+              (r .1 .1 .1) (k .1 .1 .0) (k .1 .1 .1) (m .1 .1 .0) (m .1 .1 .1),
         ),
       )
 
@@ -166,70 +170,46 @@ module _ (t : ℕ) where
   abbrev undo-from-calls : undo-from-lts.Claims
   undo-from-calls = (prev-reads.Asked, prev-reads.Learnt, slot-reads.Asked, slot-reads.Learnt, before-reads.Asked, before-reads.Learnt, undo-below t, undo.Post)
 
-  undo-from-loop-holds : undo-from-lts.Need-loop-holds undo-from-calls (undo-from-at t) undo-from.Post undo-from-Inv-loop undo-from-μ-loop
-  undo-from-loop-holds c = (after-header-same _, omega arith, goes-at-first _ _ _ _ _)
-
-  undo-from-add-prev : undo-from-lts.Need-add-prev undo-from-calls (undo-from-at t) undo-from.Post undo-from-Inv-loop undo-from-μ-loop
-  undo-from-add-prev c = omega arith
-
-  undo-from-add-if1 : undo-from-lts.Need-add-if1 undo-from-calls (undo-from-at t) undo-from.Post undo-from-Inv-loop undo-from-μ-loop
-  undo-from-add-if1 c = omega arith
-
   undo-from-returns : undo-from-lts.Need-returns undo-from-calls (undo-from-at t) undo-from.Post undo-from-Inv-loop undo-from-μ-loop
   undo-from-returns c =
-      let o = c .before .before .before .before .before in
-      let l : o .args .s < o .args .n = omega arith in
       let i = c .before .before .before .loop .inv in
-      (i .0, (i .1, undoes-from (i .2) (ended-empty l _ (c .before .prev .ensures) (omega arith))))
+      (i .0, (i .1, undoes-from (i .2) (ended-empty (omega arith) _ (c .before .prev .ensures) (omega arith))))
 
   undo-from-returns-2 : undo-from-lts.Need-returns-2 undo-from-calls (undo-from-at t) undo-from.Post undo-from-Inv-loop undo-from-μ-loop
   undo-from-returns-2 c =
-      let o = c .before .before .before .before .before .before .before .before .before in
-      let l : o .args .s < o .args .n = omega arith in
-      let i = c .before .before .before .before .before .before .before .loop .inv in
-      let x = c .before .before .before .before .before .prev .ensures in
-      let a = c .before .before .slot .ensures in
-      let b = c .before .before2 .ensures in
-      (i .0, (i .1, undoes-from (i .2) (ended-before l _ x (λ z. omega (arith, z)) (test-at _ _ _ _ a b (c .if2 .taken)))))
-
-  undo-from-undo-requires : undo-from-lts.Need-undo-requires undo-from-calls (undo-from-at t) undo-from.Post undo-from-Inv-loop undo-from-μ-loop
-  undo-from-undo-requires c κs = (omega arith, omega arith)
+      let b = c .before in
+      let x = b .before .before .before .before in
+      let i = x .before .before .loop .inv in
+      let v = test-at _ _ _ _ (b .before .slot .ensures) (b .before2 .ensures) (c .if2 .taken) in
+      (i .0, (i .1, undoes-from (i .2) (ended-before (omega arith) _ (x .prev .ensures) (λ z. omega (arith, z)) v)))
 
   undo-from-returns-3 : undo-from-lts.Need-returns-3 undo-from-calls (undo-from-at t) undo-from.Post undo-from-Inv-loop undo-from-μ-loop
   undo-from-returns-3 c =
-      let o = c .before .before .before .before .before .before .before .before .before .before .before .before .before .before in
-      let l : o .args .s < o .args .n = omega arith in
-      let i = c .before .before .before .before .before .before .before .before .before .before .before .before .loop .inv in
+      let f = c .before .before .before .before .before in
+      let b = f .before in
+      let x = b .before .before .before .before in
+      let i = x .before .before .loop .inv in
       let u = c .before .before .before .undo .ensures in
-      let x = c .before .before .before .before .before .before .before .before .before .before .prev .ensures in
-      let a = c .before .before .before .before .before .before .before .slot .ensures in
-      let b = c .before .before .before .before .before .before .before2 .ensures in
-      let v = test-at _ _ _ _ a b (c .before .before .before .before .before .if2 .left) in (
+      let v = test-at _ _ _ _ (b .before .slot .ensures) (b .before2 .ensures) (f .if2 .left) in (
         after-header-on (i .0) (u .0),
-        (omega (arith, i .1, u .1 .0), no-turn l _ x (λ z. omega (arith, z)) v (i .2) (u .1 .1) (omega arith)),
+        (omega (arith, i .1, u .1 .0), no-turn (omega arith) _ (x .prev .ensures) (λ z. omega (arith, z)) v (i .2) (u .1 .1) (omega arith)),
       )
 
   undo-from-add-count : undo-from-lts.Need-add-count undo-from-calls (undo-from-at t) undo-from.Post undo-from-Inv-loop undo-from-μ-loop
   undo-from-add-count c =
-      let o = c .before .before .before .before .before .before .before .before .before .before .before .before .before .before in
-      let i = c .before .before .before .before .before .before .before .before .before .before .before .before .loop .inv in
-      let u = c .before .before .before .undo .ensures in
-      omega (arith, i .1, u .1 .0, runs-few (o .args .n) (o .args .b .now) (o .args .c))
-
-  undo-from-loop-less : undo-from-lts.Need-loop-less undo-from-calls (undo-from-at t) undo-from.Post undo-from-Inv-loop undo-from-μ-loop
-  undo-from-loop-less c = omega (arith, c .before .before .before .undo .ensures .1 .0)
+      let l = c .before .before .before .before .before .before .before .before .before .before .before .before in
+      let a = l .before .before .args in
+      omega (arith, l .loop .inv .1, c .before .before .before .undo .ensures .1 .0, runs-few (a .n) (a .b .now) (a .c))
 
   undo-from-loop-again : undo-from-lts.Need-loop-again undo-from-calls (undo-from-at t) undo-from.Post undo-from-Inv-loop undo-from-μ-loop
   undo-from-loop-again c =
-      let o = c .before .before .before .before .before .before .before .before .before .before .before .before .before .before in
-      let l : o .args .s < o .args .n = omega arith in
-      let i = c .before .before .before .before .before .before .before .before .before .before .before .before .loop .inv in
+      let f = c .before .before .before .before .before in
+      let b = f .before in
+      let x = b .before .before .before .before in
+      let i = x .before .before .loop .inv in
       let u = c .before .before .before .undo .ensures in
-      let x = c .before .before .before .before .before .before .before .before .before .before .prev .ensures in
-      let a = c .before .before .before .before .before .before .before .slot .ensures in
-      let b = c .before .before .before .before .before .before .before2 .ensures in
-      let v = test-at _ _ _ _ a b (c .before .before .before .before .before .if2 .left) in
-      (after-header-on (i .0) (u .0), omega (arith, i .1, u .1 .0), goes-on l _ x (λ z. omega (arith, z)) v (i .2) (u .1 .1))
+      let v = test-at _ _ _ _ (b .before .slot .ensures) (b .before2 .ensures) (f .if2 .left) in
+      (after-header-on (i .0) (u .0), omega (arith, i .1, u .1 .0), goes-on (omega arith) _ (x .prev .ensures) (λ z. omega (arith, z)) v (i .2) (u .1 .1))
 
 pub +remove-below+undo+undo-from-spec : {M : Type 1} → statement M
 +remove-below+undo+undo-from-spec =
@@ -237,7 +217,7 @@ pub +remove-below+undo+undo-from-spec : {M : Type 1} → statement M
     (λ t. remove-below-lts.spec (remove-below-calls t) (remove-below-at t) remove-below.Post
     (remove-below-returns t)
     (λ c κs. search needs)
-    (remove-below-undo-from-requires t)
+    (λ c κs. (omega arith, (omega arith, omega arith)))
     (λ c κs. search needs)
     (λ c. search needs)
     (remove-below-returns-2 t)
@@ -253,26 +233,26 @@ pub +remove-below+undo+undo-from-spec : {M : Type 1} → statement M
     (λ c κs. search needs)
     (undo-remove-below-requires t)
     (undo-remove-below-requires-2 t)
-    (undo-add-result t)
-    (undo-add-result-2 t)
+    (λ c. omega (arith, undo-few t c))
+    (λ c. omega (arith, undo-few t c))
     (λ c. search needs)
     (undo-returns-2 t)
     (λ c. search needs)
     (undo-returns-3 t))
     (λ t. undo-from-lts.spec (undo-from-calls t) (undo-from-at t) undo-from.Post undo-from-Inv-loop undo-from-μ-loop
-    (undo-from-loop-holds t)
-    (undo-from-add-prev t)
+    (λ c. (after-header-same _, omega arith, goes-at-first _ _ _ _ _))
+    (λ c. omega arith)
     (λ c κs. search needs)
-    (undo-from-add-if1 t)
+    (λ c. omega arith)
     (λ c. search needs)
     (undo-from-returns t)
     (λ c κs. search needs)
     (λ c κs. search needs)
     (λ c. search needs)
     (undo-from-returns-2 t)
-    (undo-from-undo-requires t)
+    (λ c κs. (omega arith, omega arith))
     (λ c. search needs)
     (undo-from-returns-3 t)
     (undo-from-add-count t)
-    (undo-from-loop-less t)
+    (λ c. omega (arith, c .before .before .before .undo .ensures .1 .0))
     (undo-from-loop-again t))

@@ -1,4 +1,5 @@
--- `engine_rollback::add` meets its contract: the later run events of the target are undone, and the queue takes the event.
+-- A station or a line out of range adds nothing (`adds-out`, `adds-else`); else the later run events of the target are undone, and the queue takes the
+-- event (`adds`).
 use native.Mathlib.Omega.{arith}
 use borrow.Author.Needs.{needs}
 use Rattle.engine_events.proofs.AfterHeader.{after-header-same, after-header-on}
@@ -15,12 +16,11 @@ returns-2 c = (after-header-same _, (omega arith, adds-else _ _ _ (omega arith))
 
 returns-3 : tie.Need-returns-3
 returns-3 c =
-    let o = c .before .before .before .before .before .before .before .before .before .before .before in
-    let u = c .before .before .before .before .before .before .roll-back .ensures in
-    let h = c .before .before .hold .ensures in (
-      after-header-on (u .0) (h .0),
-      (omega (arith, u .1 .0, runs-few (o .args .n) (o .args .b .now) (o .args .c)), adds _ _ _ (u .1 .1) (h .1)),
-    )
+    let p = c .before .before .before .before .before .before in
+    let a = p .before .before .before .before .before .args in
+    let u = p .roll-back .ensures in
+    let h = c .before .before .hold .ensures in
+    (after-header-on (u .0) (h .0), (omega (arith, u .1 .0, runs-few (a .n) (a .b .now) (a .c)), adds _ _ _ (u .1 .1) (h .1)))
 
 pub add-spec : {M : Type 1} → statement M
 add-spec = tie.close (tie.spec returns returns-2 (λ c κs. search needs) (λ c κs. search needs) (λ c. search needs) returns-3)

@@ -1,5 +1,4 @@
--- The last run event of a station tells: where there is none, or it is before e, nothing is to be undone.
-use Prim.Native.Nat.{_<_}
+-- The last run event of a station tells: where there is none (`ended-empty`), or it is before e (`ended-before`), nothing is to be undone.
 use native.Mathlib.Omega.{arith}
 use borrow.Author.Needs.{needs}
 use Rattle.engine_rollback.proofs.UndoTurns.{goes-at-first, test-at, ended-empty, ended-before, undoes-from}
@@ -7,18 +6,15 @@ use Rattle.engine_rollback.proofs.settled.Statement.{statement}
 use Rattle.engine_rollback.proofs.settled.Tie as tie
 
 returns : tie.Need-returns
-returns c =
-    let args = c .before .before .before .args in
-    let l : args .s < args .n = omega arith in
-    λ _. undoes-from (goes-at-first _ _ _ _ _) (ended-empty l _ (c .before .prev .ensures) (omega arith))
+returns c = λ _. undoes-from (goes-at-first _ _ _ _ _) (ended-empty (omega arith) _ (c .before .prev .ensures) (omega arith))
 
 returns-2 : tie.Need-returns-2
 returns-2 c =
-    let args = c .before .before .before .before .before .args in
-    let l : args .s < args .n = omega arith in
-    let x = c .before .before .before .prev .ensures in
-    let a = c .before .slot .ensures in
-    λ t. undoes-from (goes-at-first _ _ _ _ _) (ended-before l _ x (λ z. omega (arith, z)) (test-at _ _ _ _ a (c .before2 .ensures) t))
+    let x = c .before .before .before in
+    λ t. undoes-from (goes-at-first _ _ _ _ _)
+    (ended-before (omega arith) _ (x .prev .ensures) (λ z. omega (arith, z)) (test-at _ _ _ _ (c .before .slot .ensures) (c .before2 .ensures) t))
 
 pub settled-spec : {M : Type 1} → statement M
-settled-spec = tie.close (tie.spec (λ c. search needs) (λ c κs. search needs) (λ c. search needs) returns (λ c κs. search needs) (λ c κs. search needs) returns-2)
+settled-spec =
+    tie.close
+    (tie.spec (λ c. search needs) (λ c κs. search needs) (λ c. search needs) returns (λ c κs. search needs) (λ c κs. search needs) returns-2)

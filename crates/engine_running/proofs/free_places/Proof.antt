@@ -6,26 +6,17 @@ use Rattle.engine_running.proofs.free_places.Statement.{statement}
 use Rattle.engine_running.proofs.free_places.Tie as tie
 
 returns : tie.Need-returns
-returns c =
-    let if1 = c .if1 in
-    let next = c .before .next in
-    room-none (next .result) (next .ensures) (if1 .taken)
+returns c = room-none _ (c .before .next .ensures) (c .if1 .taken)
 
 returns-2 : tie.Need-returns-2
 returns-2 c =
-    let if2 = c .if2 in
-    let next2 = c .before .next2 in
-    let if1 = c .before .before .if1 in
-    let next = c .before .before .before .next in
-    room-one (next .result) (next .ensures) (if1 .left) (sym (next2 .ensures) ∙ if2 .taken)
+    let f = c .before .before in
+    room-one _ (f .before .next .ensures) (f .if1 .left) (sym (c .before .next2 .ensures) ∙ c .if2 .taken)
 
 returns-3 : tie.Need-returns-3
 returns-3 c =
-    let if2 = c .if2 in
-    let next2 = c .before .next2 in
-    let if1 = c .before .before .if1 in
-    let next = c .before .before .before .next in
-    room-two (next .result) (next .ensures) (if1 .left) (λ e. if2 .left (next2 .ensures ∙ e))
+    let f = c .before .before in
+    room-two _ (f .before .next .ensures) (f .if1 .left) (λ e. c .if2 .left (c .before .next2 .ensures ∙ e))
 
 pub free-places-spec : {M : Type 1} → statement M
 free-places-spec =

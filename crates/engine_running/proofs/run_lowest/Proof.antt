@@ -1,4 +1,4 @@
--- The calendar's station is run.
+-- A buffer that is too short, a line with no event and a station out of range are refused, each with its law; else the calendar's station is run.
 use borrow.Author.Tests.{not-true}
 use Rattle.engine_promises.proofs.ShortBuffer.{unfit-call}
 use Rattle.engine_running.proofs.RunCalls.{none-lowest, far-lowest, lowest-run}
@@ -6,37 +6,36 @@ use borrow.Author.Needs.{needs}
 use Rattle.engine_running.proofs.run_lowest.Statement.{statement}
 use Rattle.engine_running.proofs.run_lowest.Tie as tie
 
+-- ---- places of the code, each seen from a later one
+
+abbrev sized : tie.After-lowest → tie.After-capacity
+sized c = c .before .before .before .before .before
+
+abbrev lowest : tie.After-station → tie.After-lowest
+lowest c = c .before .before
+
 returns : tie.Need-returns
 returns c =
-    let fits2 = c .before .fits2 in
-    let capacity = c .before .before .before .capacity in
-    let stations = c .before .before .before .before .before .stations in
-    unfit-call (stations .ensures) (capacity .ensures) (fits2 .ensures) (not-true _ (c .if1 .taken))
+    let k = c .before .before .before in
+    unfit-call (k .before .before .stations .ensures) (k .capacity .ensures) (c .before .fits2 .ensures) (not-true _ (c .if1 .taken))
 
 returns-2 : tie.Need-returns-2
 returns-2 c =
-    let lowest = c .before .before .lowest in
-    let capacity = c .before .before .before .before .before .before .before .capacity in
-    let stations = c .before .before .before .before .before .before .before .before .before .stations in
-    none-lowest (stations .ensures) (capacity .ensures) (lowest .ensures) (c .enum-told .given .1)
+    let l = c .before .before in
+    none-lowest (sized l .before .before .stations .ensures) (sized l .capacity .ensures) (l .lowest .ensures) (c .enum-told .given .1)
 
 returns-3 : tie.Need-returns-3
 returns-3 c =
-    let station = c .before .before .station in
-    let lowest = c .before .before .before .before .lowest in
-    let capacity = c .before .before .before .before .before .before .before .before .before .capacity in
-    let stations = c .before .before .before .before .before .before .before .before .before .before .before .stations in
-    far-lowest (stations .ensures) (capacity .ensures) (lowest .ensures) _ (station .given .1) (c .if2 .taken)
+    let s = c .before .before in
+    let l = lowest s in
+    far-lowest (sized l .before .before .stations .ensures) (sized l .capacity .ensures) (l .lowest .ensures) _ (s .station .given .1) (c .if2 .taken)
 
 returns-4 : tie.Need-returns-4
 returns-4 c =
-    let back = c .before .before .before .before .before .before .before .before .before .before .before .before in
-    let run-at = c .before .before .run-at in
-    let station = c .before .before .before .before .before .before .station in
-    let lowest = c .before .before .before .before .before .before .before .before .lowest in
-    let capacity = back .before .capacity in
-    let stations = back .before .before .before .stations in
-    lowest-run (stations .ensures) (capacity .ensures) (lowest .ensures) (station .given .1) (run-at .ensures)
+    let s = c .before .before .before .before .before .before in
+    let l = lowest s in
+    lowest-run (sized l .before .before .stations .ensures) (sized l .capacity .ensures) (l .lowest .ensures) (s .station .given .1)
+    (c .before .before .run-at .ensures)
 
 pub run-lowest-spec : {M : Type 1} → statement M
 run-lowest-spec =

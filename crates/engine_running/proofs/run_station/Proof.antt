@@ -1,4 +1,4 @@
--- A station of the line is run.
+-- A number that is no station's is refused (`far-station`); else that station of the line is run.
 use Rattle.engine_running.proofs.RunCalls.{far-station, station-run}
 use borrow.Author.Needs.{needs}
 use Rattle.engine_running.proofs.run_station.Statement.{statement}
@@ -9,10 +9,8 @@ returns c = far-station (c .if1 .taken)
 
 returns-2 : tie.Need-returns-2
 returns-2 c =
-    let run-at = c .before .before .run-at in
-    let capacity = c .before .before .before .before .capacity in
-    let stations = c .before .before .before .before .before .before .stations in
-    station-run (stations .ensures) (capacity .ensures) (run-at .ensures)
+    let k = c .before .before .before .before in
+    station-run (k .before .before .stations .ensures) (k .capacity .ensures) (c .before .before .run-at .ensures)
 
 pub run-station-spec : {M : Type 1} → statement M
 run-station-spec =

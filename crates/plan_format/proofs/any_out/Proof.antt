@@ -17,38 +17,30 @@ abbrev μ-loop : tie.MeasureT-loop
 loop-holds : tie.Need-loop-holds Inv-loop μ-loop
 loop-holds c = (omega arith, refl)
 
-shared-slice-read-b : tie.Need-shared-slice-read-b Inv-loop μ-loop
-shared-slice-read-b c = omega arith
-
 returns : tie.Need-returns Inv-loop μ-loop
 returns c =
-    let l = c .before .before .before .before .args .name .now in
-    let i = c .before .before .before .loop .i in
-    sym (any-low l i (omega arith) (c .if1 .taken)) ∙ c .before .before .before .loop .inv .1
+    let name = c .before .before .before .before .args .name .now in
+    let l = c .before .before .before .loop in
+    sym (any-low name (l .i) (omega arith) (c .if1 .taken)) ∙ l .inv .1
 
 returns-2 : tie.Need-returns-2 Inv-loop μ-loop
 returns-2 c =
-    let l = c .before .before .before .before .before .args .name .now in
-    let i = c .before .before .before .before .loop .i in
-    sym (any-high l i (omega arith) (c .before .if1 .left) (c .if2 .taken)) ∙ c .before .before .before .before .loop .inv .1
-
-add-i : tie.Need-add-i Inv-loop μ-loop
-add-i c = omega arith
-
-loop-less : tie.Need-loop-less Inv-loop μ-loop
-loop-less c = omega arith
+    let name = c .before .before .before .before .before .args .name .now in
+    let l = c .before .before .before .before .loop in
+    sym (any-high name (l .i) (omega arith) (c .before .if1 .left) (c .if2 .taken)) ∙ l .inv .1
 
 loop-again : tie.Need-loop-again Inv-loop μ-loop
 loop-again c =
-    let l = c .before .before .before .before .before .args .name .now in
-    let i = c .before .before .before .before .loop .i in
-    (omega arith, sym (any-in l i (omega arith) (c .before .if1 .left) (c .if2 .left)) ∙ c .before .before .before .before .loop .inv .1)
+    let name = c .before .before .before .before .before .args .name .now in
+    let l = c .before .before .before .before .loop in
+    (omega arith, sym (any-in name (l .i) (omega arith) (c .before .if1 .left) (c .if2 .left)) ∙ l .inv .1)
 
 returns-3 : tie.Need-returns-3 Inv-loop μ-loop
 returns-3 c =
     let name = c .before .before .args .name .now in
-    let e : length name ≡ c .before .loop .i = omega arith in
-    sym (any-end name) ∙ ap (λ (i : ℕ). anyOut (drop i name)) e ∙ c .before .loop .inv .1
+    let l = c .before .loop in
+    let e : length name ≡ l .i = omega arith in
+    sym (any-end name) ∙ ap (λ (i : ℕ). anyOut (drop i name)) e ∙ l .inv .1
 
 pub any-out-spec : {M : Type 1} → statement M
 any-out-spec =
@@ -57,10 +49,10 @@ any-out-spec =
     Inv-loop
     μ-loop
     loop-holds
-    shared-slice-read-b
+    (λ c. omega arith)
     returns
     returns-2
-    add-i
-    loop-less
+    (λ c. omega arith)
+    (λ c. omega arith)
     loop-again
     returns-3)

@@ -19,17 +19,16 @@ abbrev μ-loop : tie.MeasureT-loop
 loop-holds : tie.Need-loop-holds Inv-loop μ-loop
 loop-holds c = (omega arith, lowest-zero _)
 
+-- the call's answer is the station's
+station : (c : tie.After-number-out Inv-loop μ-loop) → let l = c .before .before .before in
+    fieldWrong (l .before .before .args .plan .now) (l .loop .k) ≡ c .number-out .result
+station c = field-is _ _ (c .before .config-at .ensures) (c .number-out .ensures)
+
 returns : tie.Need-returns Inv-loop μ-loop
-returns c = lowest-found _ _ _ (c .before .before .before .before .loop .inv .1) (field-is _ _ (c .before .before .config-at .ensures) (c .before .number-out .ensures) ∙ c .if1 .taken) (omega arith)
-
-add-k : tie.Need-add-k Inv-loop μ-loop
-add-k c = omega arith
-
-loop-less : tie.Need-loop-less Inv-loop μ-loop
-loop-less c = omega arith
+returns c = lowest-found _ _ _ (c .before .before .before .before .loop .inv .1) (station (c .before) ∙ c .if1 .taken) (omega arith)
 
 loop-again : tie.Need-loop-again Inv-loop μ-loop
-loop-again c = (omega arith, lowest-next _ _ (c .before .before .before .before .loop .inv .1) (field-is _ _ (c .before .before .config-at .ensures) (c .before .number-out .ensures) ∙ c .if1 .left))
+loop-again c = (omega arith, lowest-next _ _ (c .before .before .before .before .loop .inv .1) (station (c .before) ∙ c .if1 .left))
 
 returns-2 : tie.Need-returns-2 Inv-loop μ-loop
 returns-2 c = lowest-end _ _ _ (c .before .loop .inv .1) (omega arith)
@@ -44,7 +43,7 @@ lowest-field-spec =
     (λ c κs. search needs)
     (λ c κs. search needs)
     returns
-    add-k
-    loop-less
+    (λ c. omega arith)
+    (λ c. omega arith)
     loop-again
     returns-2)

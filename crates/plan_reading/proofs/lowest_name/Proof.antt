@@ -19,23 +19,19 @@ abbrev μ-loop : tie.MeasureT-loop
 loop-holds : tie.Need-loop-holds Inv-loop μ-loop
 loop-holds c = (omega arith, lowest-zero _)
 
-cast-station-at : tie.Need-cast-station-at Inv-loop μ-loop
-cast-station-at c = omega arith
-
 station-at-requires : tie.Need-station-at-requires Inv-loop μ-loop
 station-at-requires c κs = (omega arith, lowest-none _ (c .before .before .before .args .n) _ (c .before .before .before .pre .1) (omega arith))
 
+-- the call's answer is the station's
+station : (c : tie.After-name-out Inv-loop μ-loop) → let l = c .before .before .before in
+    nameWrong (l .before .before .args .plan .now) (l .loop .k) ≡ c .name-out .result
+station c = name-is _ _ (c .before .station-at .ensures) (c .name-out .ensures)
+
 returns : tie.Need-returns Inv-loop μ-loop
-returns c = lowest-found _ _ _ (c .before .before .before .before .loop .inv .1) (name-is _ _ (c .before .before .station-at .ensures) (c .before .name-out .ensures) ∙ c .if1 .taken) (omega arith)
-
-add-k : tie.Need-add-k Inv-loop μ-loop
-add-k c = omega arith
-
-loop-less : tie.Need-loop-less Inv-loop μ-loop
-loop-less c = omega arith
+returns c = lowest-found _ _ _ (c .before .before .before .before .loop .inv .1) (station (c .before) ∙ c .if1 .taken) (omega arith)
 
 loop-again : tie.Need-loop-again Inv-loop μ-loop
-loop-again c = (omega arith, lowest-next _ _ (c .before .before .before .before .loop .inv .1) (name-is _ _ (c .before .before .station-at .ensures) (c .before .name-out .ensures) ∙ c .if1 .left))
+loop-again c = (omega arith, lowest-next _ _ (c .before .before .before .before .loop .inv .1) (station (c .before) ∙ c .if1 .left))
 
 returns-2 : tie.Need-returns-2 Inv-loop μ-loop
 returns-2 c = lowest-end _ _ _ (c .before .loop .inv .1) (omega arith)
@@ -47,11 +43,11 @@ lowest-name-spec =
     Inv-loop
     μ-loop
     loop-holds
-    cast-station-at
+    (λ c. omega arith)
     station-at-requires
     (λ c κs. search needs)
     returns
-    add-k
-    loop-less
+    (λ c. omega arith)
+    (λ c. omega arith)
     loop-again
     returns-2)

@@ -21,12 +21,6 @@ loop-holds c = (omega arith, lowest-zero _)
 returns : tie.Need-returns Inv-loop μ-loop
 returns c = lowest-found _ _ _ (c .before .before .before .loop .inv .1) (sym (c .before .pair-wrong .ensures) ∙ c .if1 .taken) (omega arith)
 
-add-k : tie.Need-add-k Inv-loop μ-loop
-add-k c = omega arith
-
-loop-less : tie.Need-loop-less Inv-loop μ-loop
-loop-less c = omega arith
-
 loop-again : tie.Need-loop-again Inv-loop μ-loop
 loop-again c = (omega arith, lowest-next _ _ (c .before .before .before .loop .inv .1) (sym (c .before .pair-wrong .ensures) ∙ c .if1 .left))
 
@@ -42,7 +36,7 @@ lowest-pair-spec =
     loop-holds
     (λ c κs. search needs)
     returns
-    add-k
-    loop-less
+    (λ c. omega arith)
+    (λ c. omega arith)
     loop-again
     returns-2)

@@ -4,20 +4,21 @@ use native.Mathlib.Omega.{arith}
 use mathlib.Core.Path.{_∙_}
 use lib.ListN.{take, drop}
 use Rattle.plan_format.specs.Plan.{padded, stationAt}
-use Rattle.plan_format.proofs.Pairs.{pair-right}
+use Rattle.plan_format.proofs.Pairs.{PairRight, pair-right}
 use borrow.Author.Needs.{needs}
 use Rattle.plan_reading.proofs.station_at.Statement.{statement}
 use Rattle.plan_reading.proofs.station_at.Tie as tie
 
+-- the pair is right
+right : (c : tie.After-length-of) → PairRight (c .before .before .before .args .plan .now) (c .before .before .before .args .k)
+right c = pair-right _ _ (c .before .before .before .pre .1)
+
 sub-len : tie.Need-sub-len
-sub-len c =
-    let r = pair-right (c .before .before .before .args .plan .now) (c .before .before .before .args .k) (c .before .before .before .pre .1) in
-    let l = c .length-of .ensures .0 in
-    omega arith
+sub-len c = let r = right c in let l = c .length-of .ensures .0 in omega arith
 
 name-at-requires : tie.Need-name-at-requires
 name-at-requires c κs =
-    let r = pair-right (c .before .before .before .before .args .plan .now) (c .before .before .before .before .args .k) (c .before .before .before .before .pre .1) in
+    let r = right (c .before) in
     let a = c .before .before .offset-of .ensures .0 in
     let l = c .before .length-of .ensures .0 in
     (omega arith, omega arith)

@@ -13,7 +13,9 @@ returns-2 : tie.Need-returns-2
 returns-2 c = simp (c .before .before .before .if1 .taken, le-leb _ _ (c .before .before .if2 .left), lt-leb _ _ (c .if3 .taken))
 
 returns-3 : tie.Need-returns-3
-returns-3 c = and-next (c .before .before .before .before .if1 .taken) (and-next (le-leb _ _ (c .before .before .before .if2 .left)) (and-next (le-leb _ _ (c .before .if3 .left)) refl))
+returns-3 c =
+    let r = c .before .before .before in
+    and-next (r .before .if1 .taken) (and-next (le-leb _ _ (r .if2 .left)) (and-next (le-leb _ _ (c .before .if3 .left)) refl))
 
 pub has-room-spec : {M : Type 1} → statement M
 has-room-spec =

@@ -11,7 +11,10 @@ add-t12 c = omega (arith, counted-most (c .before .before .before .before .befor
 
 returns : tie.Need-returns
 unfolding moved
-returns c = cc
+returns c =
+    let b = c .before .before in
+    let a = b .before .before in
+    rw (a .lowest-of .ensures, a .before .number-out .ensures, b .lowest-of2 .ensures, b .before .name-out .ensures, c .counted-of .ensures)
 
 pub move-on-spec : {M : Type 1} → statement M
 move-on-spec =

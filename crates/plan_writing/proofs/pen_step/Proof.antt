@@ -1,21 +1,20 @@
 -- `pen_step` meets its contract: a ready pen stores and moves on, another stays.
 use Rattle.plan_writing.proofs.WriteTests.{ready-true}
-use Rattle.plan_writing.specs.Steps.{stepped}
+use Rattle.plan_writing.specs.Steps.{ready, stepped}
 use native.Mathlib.Omega.{arith}
-use mathlib.Core.Path.{sym, _∙_}
+use mathlib.Core.Path.{_≡_, sym, _∙_}
+use mathlib.Core.Bool.{true}
 use borrow.Author.Needs.{needs}
 use Rattle.plan_writing.proofs.pen_step.Statement.{statement}
 use Rattle.plan_writing.proofs.pen_step.Tie as tie
 
-put-station-requires : tie.Need-put-station-requires
-put-station-requires c κs = ready-true (c .before .before .before .before .args .p) (sym (c .before .before .is-ready .ensures) ∙ c .before .if1 .taken)
-
-move-on-requires : tie.Need-move-on-requires
-move-on-requires c κs = let r = ready-true (c .before .before .before .before .before .before .before .args .p) (sym (c .before .before .before .before .before .is-ready .ensures) ∙ c .before .before .before .before .if1 .taken) in (omega arith, omega arith)
+-- the pen is ready
+tested : (c : tie.Then1) → ready (c .before .before .before .args .p) ≡ true
+tested c = sym (c .before .is-ready .ensures) ∙ c .if1 .taken
 
 returns : tie.Need-returns
 unfolding stepped
-returns c = rw (sym (c .before .before .before .before .before .before .is-ready .ensures) ∙ c .before .before .before .before .before .if1 .taken) (cc (c .before .before .before .put-station .ensures, c .move-on .ensures))
+returns c = rw (tested (c .before .before .before .before .before), ← c .before .before .before .put-station .ensures, ← c .move-on .ensures)
 
 returns-2 : tie.Need-returns-2
 unfolding stepped
@@ -26,8 +25,8 @@ pen-step-spec =
     tie.close
     (tie.spec
     (λ c κs. search needs)
-    put-station-requires
-    move-on-requires
+    (λ c κs. ready-true (c .before .before .before .before .args .p) (tested (c .before)))
+    (λ c κs. let f = c .before .before .before .before in let r = ready-true (f .before .before .before .args .p) (tested f) in (omega arith, omega arith))
     (λ c. search needs)
     returns
     returns-2)

@@ -1,38 +1,41 @@
 -- `put_station` meets its contract: with room, the count, the pair and the record are stored in turn.
 use Rattle.plan_writing.proofs.WriteTests.{roomy-true}
-use Rattle.plan_writing.specs.Steps.{placed}
-use Rattle.plan_format.specs.Writing.{sizeOf, recordBytes}
-use Rattle.words.specs.Le.{bytesOf}
-use lib.Seq.{sets}
-use mathlib.Core.List.{List, _++_}
+use Rattle.plan_writing.specs.Steps.{roomy, placed}
+use Rattle.plan_format.specs.Writing.{sizeOf}
 use lib.ListN.{length}
 use native.Mathlib.Omega.{arith}
-use mathlib.Core.Path.{sym, ap, _∙_}
-use Prim.Native.Nat.{ℕ, _+_, _*_}
+use mathlib.Core.Path.{_≡_, sym, _∙_}
+use mathlib.Core.Bool.{true}
+use Prim.Native.Nat.{_+_, _*_, _≤_}
 use borrow.Author.Needs.{needs}
 use Rattle.plan_writing.proofs.put_station.Statement.{statement}
 use Rattle.plan_writing.proofs.put_station.Tie as tie
 
-put-count-requires : tie.Need-put-count-requires
-put-count-requires c κs = let r = roomy-true (c .before .before .before .before .args .s) (c .before .before .before .before .args .p) (length (c .before .before .before .before .args .out .now)) (sym (c .before .before .has-room .ensures) ∙ c .before .if1 .taken) in (omega arith, omega arith)
+-- ---- places of the code, each seen from a later one
 
-add-put-pair : tie.Need-add-put-pair
-add-put-pair c = let r = roomy-true (c .before .before .before .before .before .before .before .before .before .args .s) (c .before .before .before .before .before .before .before .before .before .args .p) (length (c .before .before .before .before .before .before .before .before .before .args .out .now)) (sym (c .before .before .before .before .before .before .before .has-room .ensures) ∙ c .before .before .before .before .before .before .if1 .taken) in omega arith
+abbrev start : tie.Then1 → tie.Start
+start c = c .before .before .before
 
-put-pair-requires : tie.Need-put-pair-requires
-put-pair-requires c κs = let r = roomy-true (c .before .before .before .before .before .before .before .before .before .args .s) (c .before .before .before .before .before .before .before .before .before .args .p) (length (c .before .before .before .before .before .before .before .before .before .args .out .now)) (sym (c .before .before .before .before .before .before .before .has-room .ensures) ∙ c .before .before .before .before .before .before .if1 .taken) in (omega arith, (omega arith, omega arith))
+abbrev roomed : tie.After-put-count → tie.Then1
+roomed c = c .before .before
 
-put-record-requires : tie.Need-put-record-requires
-put-record-requires c κs = let r = roomy-true (c .before .before .before .before .before .before .before .before .before .before .before .before .before .args .s) (c .before .before .before .before .before .before .before .before .before .before .before .before .before .args .p) (length (c .before .before .before .before .before .before .before .before .before .before .before .before .before .args .out .now)) (sym (c .before .before .before .before .before .before .before .before .before .before .before .has-room .ensures) ∙ c .before .before .before .before .before .before .before .before .before .before .if1 .taken) in (omega arith, omega arith)
+abbrev counted : tie.After-put-pair → tie.After-put-count
+counted c = c .before .before .before .before .before
+
+-- the test of the room, and what it says
+tested : (c : tie.Then1) → roomy (start c .args .s) (start c .args .p) (length (start c .args .out .now)) ≡ true
+tested c = sym (c .before .has-room .ensures) ∙ c .if1 .taken
+
+room : (c : tie.Then1) → let a = start c .args in
+    (a .s .len ≤ 16) × ((10 + 8 * a .p .k ≤ length (a .out .now)) × (a .p .at + sizeOf (a .s) ≤ length (a .out .now)))
+room c = roomy-true (start c .args .s) (start c .args .p) (length (start c .args .out .now)) (tested c)
 
 returns : tie.Need-returns
 unfolding placed
 returns c =
-    let a = c .before .before .before .before .before .before .before .before .before .before .before .before .before .before .before .before .args in
-    let q = bytesOf 4 (a .p .at) ++ bytesOf 4 (sizeOf (a .s)) in
-    rw (sym (c .before .before .before .before .before .before .before .before .before .before .before .before .before .before .has-room .ensures) ∙ c .before .before .before .before .before .before .before .before .before .before .before .before .before .if1 .taken)
-    (c .before .before .put-record .ensures
-    ∙ ap (λ (o : List ℕ). sets o (a .p .at) (recordBytes (a .s))) (c .before .before .before .before .before .before .put-pair .ensures ∙ ap (λ (o : List ℕ). sets o (2 + 8 * a .p .k) q) (c .before .before .before .before .before .before .before .before .before .before .before .put-count .ensures)))
+    let p = c .before .before .before .before .before .before in
+    let k = counted p in
+    rw (tested (roomed k), c .before .before .put-record .ensures, p .put-pair .ensures, k .put-count .ensures)
 
 returns-2 : tie.Need-returns-2
 returns-2 c = rw (sym (c .before .has-room .ensures) ∙ c .if1 .left)
@@ -42,10 +45,10 @@ put-station-spec =
     tie.close
     (tie.spec
     (λ c κs. search needs)
-    put-count-requires
-    add-put-pair
-    put-pair-requires
-    put-record-requires
+    (λ c κs. let r = room (c .before) in (omega arith, omega arith))
+    (λ c. let r = room (roomed (c .before .before .before .before)) in omega arith)
+    (λ c κs. let r = room (roomed (c .before .before .before .before)) in (omega arith, (omega arith, omega arith)))
+    (λ c κs. let r = room (roomed (counted (c .before .before .before))) in (omega arith, omega arith))
     (λ c. search needs)
     returns
     returns-2)
