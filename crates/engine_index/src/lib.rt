@@ -33,21 +33,18 @@ pub fn links(n: u16, c: u16) -> u32
     32832 + 192 * n as u32 + 64 * c as u32
 }
 
-// How many nodes there are; 0 where the numbers are out of range.
+// How many nodes there are, where the numbers are in range; no test of that is made here.
 pub fn nodes(n: u16, c: u16) -> u16
     ensures { λ r. ⌜ ((n ≤ 256) → (c ≤ 4096) → r ≡ nodesOf n c) ⌝ }
 {
-    if in_range(n, c) {
-        return 2 * n + 1 + c;
-    }
-    0
+    ((2 * n as u32 + 1 + c as u32) % 65536) as u16
 }
 
-// Where the log's links start.
+// Where the log's links start, where the numbers are in range.
 pub fn log(n: u16, c: u16) -> u32
-    ensures { λ r. ⌜ r ≡ logAt n c ⌝ }
+    ensures { λ r. ⌜ ((n ≤ 256) → (c ≤ 4096) → r ≡ logAt n c) ⌝ }
 {
-    links(n, c) + 4 * (2 * n as u32 + 1 + c as u32)
+    links(n, c) + 4 * nodes(n, c) as u32
 }
 
 // The slot of a node; 0 for a sentinel.

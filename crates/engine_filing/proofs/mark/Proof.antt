@@ -38,7 +38,7 @@ returns c =
     mark-made (a .n) (a .c) (a .b .now) (a .x) (f .before .slot-in .ensures) (f .if1 .taken) _ (k .before .before .before .event .ensures)
     (k .before .links .ensures) (k .nodes .ensures (range f .0) (range f .1)) (u .before .before .before .before .before .before .before .before .set-saved .ensures)
     (u .before .before .before .before .set-number .ensures .0 (omega arith)) (u .unlink .ensures) (l .before .before .before .before .before .prev .ensures)
-    (l .before .before .before .insert-after .ensures) (l .log .ensures)
+    (l .before .before .before .insert-after .ensures) (l .log .ensures (range f .0) (range f .1))
     (filed-last _ _ _ _ _ _ _ (placed .before .before .before .prev2 .ensures) (placed .before .stops .ensures) (placed .if3 .taken) (c .before .before .insert-after2 .ensures))
 
 returns-2 : tie.Need-returns-2
@@ -51,7 +51,7 @@ returns-2 c =
     mark-made (a .n) (a .c) (a .b .now) (a .x) (f .before .slot-in .ensures) (f .if1 .taken) _ (k .before .before .before .event .ensures)
     (k .before .links .ensures) (k .nodes .ensures (range f .0) (range f .1)) (u .before .before .before .before .before .before .before .before .set-saved .ensures)
     (u .before .before .before .before .set-number .ensures .0 (omega arith)) (u .unlink .ensures) (l .before .before .before .before .before .prev .ensures)
-    (l .before .before .before .insert-after .ensures) (l .log .ensures) (c .before .before .file .ensures)
+    (l .before .before .before .insert-after .ensures) (l .log .ensures (range f .0) (range f .1)) (c .before .before .file .ensures)
 
 -- ---- nothing is done
 

@@ -29,7 +29,7 @@ returns c =
     let f = ranged k in
     let r = range f in
     clear-made (start f .args .n) (start f .args .c) _ (k .before .links .ensures) (k .nodes .ensures (r .0) (r .1)) (e .empty-rings .ensures)
-    (s .free-slots .ensures) (c .before .before .before .log .ensures) (c .before .before .make-empty .ensures)
+    (s .free-slots .ensures) (c .before .before .before .log .ensures (r .0) (r .1)) (c .before .before .make-empty .ensures)
 
 returns-2 : tie.Need-returns-2
 returns-2 c = clear-none (c .before .before .before .args .n) (c .before .before .before .args .c) _ (c .before .in-range .ensures) (c .if1 .left)

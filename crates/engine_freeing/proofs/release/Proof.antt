@@ -11,7 +11,7 @@ returns c =
     let f = u .before .before .before .before in
     let a = f .before .before .before .before .args in
     let r = found-range (a .n) (a .c) (a .b .now) (a .x) (f .before .slot-in .ensures) (f .if1 .taken) in
-    release-made _ _ _ _ (f .before .slot-in .ensures) (f .if1 .taken) (u .before .before .log .ensures) (u .before .nodes .ensures (r .0) (r .1))
+    release-made _ _ _ _ (f .before .slot-in .ensures) (f .if1 .taken) (u .before .before .log .ensures (r .0) (r .1)) (u .before .nodes .ensures (r .0) (r .1))
     (u .unlink .ensures) (c .before .before .free .ensures)
 
 returns-2 : tie.Need-returns-2

@@ -14,7 +14,7 @@ returns c =
     let a = f .before .before .before .before .args in
     let r = found-range (a .n) (a .c) (a .b .now) (a .x) (f .before .slot-in .ensures) (f .if1 .taken) in
     unmark-made _ _ _ _ (f .before .slot-in .ensures) (f .if1 .taken) (k .before .before .before .event .ensures) (k .before .links .ensures)
-    (k .nodes .ensures (r .0) (r .1)) (u .before .before .before .before .before .set-number .ensures .0 (omega arith)) (u .before .log .ensures)
+    (k .nodes .ensures (r .0) (r .1)) (u .before .before .before .before .before .set-number .ensures .0 (omega arith)) (u .before .log .ensures (r .0) (r .1))
     (u .unlink .ensures) (c .before .before .before .before .before .before .unlink2 .ensures) (c .before .before .insert-after .ensures)
 
 returns-2 : tie.Need-returns-2

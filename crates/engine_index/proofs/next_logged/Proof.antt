@@ -9,7 +9,7 @@ returns : tie.Need-returns
 returns c =
     let log = c .before .log in
     let args = c .before .before .before .before .before .args in
-    λ _ _. looked-log _ _ (args .n) (args .c) (log .ensures) (c .next .ensures)
+    λ h k. looked-log _ _ (args .n) (args .c) (log .ensures h k) (c .next .ensures)
 
 returns-2 : tie.Need-returns-2
 returns-2 c = λ h k. absurd (range-gone (c .before .before .before .args .n) (c .before .before .before .args .c) (c .before .in-range .ensures) (c .if1 .left) h k)

@@ -13,7 +13,7 @@ range c = range-true _ _ (c .before .in-range .ensures) (c .if1 .taken)
 returns : tie.Need-returns
 returns c =
     let r = range (c .before .before .before .before) in
-    found _ _ _ _ (r .0) (r .1) (c .before .before .before .log .ensures) (c .before .before .nodes .ensures (r .0) (r .1)) (c .before .if2 .taken) (c .if3 .taken)
+    found _ _ _ _ (r .0) (r .1) (c .before .before .before .log .ensures (r .0) (r .1)) (c .before .before .nodes .ensures (r .0) (r .1)) (c .before .if2 .taken) (c .if3 .taken)
 
 returns-2 : tie.Need-returns-2
 returns-2 c = sentinel _ _ _ _ (c .if3 .left)
@@ -21,7 +21,7 @@ returns-2 c = sentinel _ _ _ _ (c .if3 .left)
 returns-3 : tie.Need-returns-3
 returns-3 c =
     let r = range (c .before .before .before) in
-    short _ _ _ _ (c .before .before .log .ensures) (c .before .nodes .ensures (r .0) (r .1)) (c .if2 .left)
+    short _ _ _ _ (c .before .before .log .ensures (r .0) (r .1)) (c .before .nodes .ensures (r .0) (r .1)) (c .if2 .left)
 
 returns-4 : tie.Need-returns-4
 returns-4 c = out-of-range _ _ _ _ (c .before .in-range .ensures) (c .if1 .left)
