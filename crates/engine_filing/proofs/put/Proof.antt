@@ -27,25 +27,29 @@ range c = range-true _ _ (c .before .in-range .ensures) (c .if1 .taken)
 returns : tie.Need-returns
 returns c =
     let p = c .before .before .before .before .before .before .before in
+    let n = p .before .before .before .before in
+    let e = n .before .before .before .before in
+    let u = e .before .before .before .before in
     let i = taken p in
     let f = ranged i in
-    let a = start f .args in
     let r = range f in
-    put-made (a .n) (a .c) (a .b .now) _ (i .before .before .before .before .before .links .ensures) (i .before .before .before .before .nodes .ensures (r .0) (r .1))
-    (i .before .before .next .ensures) (i .slot-in .ensures) (p .before .before .before .before .before .before .before .before .before .before .before .before .before .before .if2 .taken) (p .before .before .before .before .before .before .before .before .before .before .before .before .unlink .ensures)
-    (p .before .before .before .before .before .before .before .before .set-event .ensures) (p .before .before .before .before .set-number .ensures .0 (omega arith))
+    put-made _ _ (start f .args .b .now) _ (i .before .before .before .before .before .links .ensures) (i .before .before .before .before .nodes .ensures (r .0) (r .1))
+    (i .before .before .next .ensures) (i .slot-in .ensures) (u .before .before .if2 .taken) (u .unlink .ensures) (e .set-event .ensures)
+    (n .set-number .ensures .0 (omega arith))
     (filed-last _ _ _ _ _ _ _ (p .prev .ensures) (c .before .before .before .before .before .stops .ensures) (c .before .before .before .before .if3 .taken) (c .before .before .insert-after .ensures))
 
 returns-2 : tie.Need-returns-2
 returns-2 c =
     let p = c .before .before .before .before .before .before .before in
+    let n = p .before .before .before .before in
+    let e = n .before .before .before .before in
+    let u = e .before .before .before .before in
     let i = taken p in
     let f = ranged i in
-    let a = start f .args in
     let r = range f in
-    put-made (a .n) (a .c) (a .b .now) _ (i .before .before .before .before .before .links .ensures) (i .before .before .before .before .nodes .ensures (r .0) (r .1))
-    (i .before .before .next .ensures) (i .slot-in .ensures) (p .before .before .before .before .before .before .before .before .before .before .before .before .before .before .if2 .taken) (p .before .before .before .before .before .before .before .before .before .before .before .before .unlink .ensures)
-    (p .before .before .before .before .before .before .before .before .set-event .ensures) (p .before .before .before .before .set-number .ensures .0 (omega arith)) (c .before .before .file .ensures)
+    put-made _ _ (start f .args .b .now) _ (i .before .before .before .before .before .links .ensures) (i .before .before .before .before .nodes .ensures (r .0) (r .1))
+    (i .before .before .next .ensures) (i .slot-in .ensures) (u .before .before .if2 .taken) (u .unlink .ensures) (e .set-event .ensures)
+    (n .set-number .ensures .0 (omega arith)) (c .before .before .file .ensures)
 
 -- ---- nothing is done
 

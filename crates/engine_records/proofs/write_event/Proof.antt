@@ -10,10 +10,19 @@ use Rattle.engine_records.proofs.write_event.Tie as tie
 returns : tie.Need-returns
 unfolding putEvent
 returns c =
-    let at = c .before .before .before .before .before .before .before .before .before .before .before .before .before .before .before .before .before .before .before .before .before .before .before .before .before .before .before .args .at in
-    let one = c .before .before .before .before .before .before .before .before .before .before .before .before .before .before .before .before .before .before .before .before .store32 .ensures ∙ ap (storeAt 4 _ _) (c .before .before .before .before .before .before .before .before .before .before .before .before .before .before .before .before .before .before .before .before .before .before .before .before .store64 .ensures) in
-    let two = c .before .before .before .before .before .before .before .store162 .ensures ∙ ap (storeAt 2 _ _) (c .before .before .before .before .before .before .before .before .before .before .before .store16 .ensures ∙ ap (storeAt 2 _ _) (c .before .before .before .before .before .before .before .before .before .before .before .before .before .before .before .store322 .ensures ∙ (λ i. storeAt 4 (at + 12) (c .before .before .before .before .before .before .before .before .before .before .before .before .before .before .before .before .value-of .ensures i) (one i)))) in
-    c .before .before .store323 .ensures ∙ (λ i. storeAt 4 (at + 20) (c .before .before .before .kind-of .ensures i) (two i))
+    let s6 = c .before .before in
+    let kind = s6 .before in
+    let s5 = kind .before .before .before .before in
+    let s4 = s5 .before .before .before .before in
+    let s3 = s4 .before .before .before .before in
+    let value = s3 .before in
+    let s2 = value .before .before .before .before in
+    let s1 = s2 .before .before .before .before in
+    let at = s1 .before .before .before .args .at in
+    let one = s2 .store32 .ensures ∙ ap (storeAt 4 _ _) (s1 .store64 .ensures) in
+    let two = s3 .store322 .ensures ∙ (λ i. storeAt 4 (at + 12) (value .value-of .ensures i) (one i)) in
+    let three = s5 .store162 .ensures ∙ ap (storeAt 2 _ _) (s4 .store16 .ensures ∙ ap (storeAt 2 _ _) two) in
+    s6 .store323 .ensures ∙ (λ i. storeAt 4 (at + 20) (kind .kind-of .ensures i) (three i))
 
 pub write-event-spec : {M : Type 1} → statement M
 write-event-spec =

@@ -9,11 +9,14 @@ use Rattle.engine_records.proofs.write_state.Tie as tie
 returns : tie.Need-returns
 unfolding putState
 returns c =
-    c .before .before .store325 .ensures
-    ∙ ap (storeAt 4 _ _) (c .before .before .before .before .before .before .store324 .ensures
-    ∙ ap (storeAt 4 _ _) (c .before .before .before .before .before .before .before .before .before .before .store323 .ensures
-    ∙ ap (storeAt 4 _ _) (c .before .before .before .before .before .before .before .before .before .before .before .before .before .before .store322 .ensures
-    ∙ ap (storeAt 4 _ _) (c .before .before .before .before .before .before .before .before .before .before .before .before .before .before .before .before .before .before .store32 .ensures))))
+    let s5 = c .before .before in
+    let s4 = s5 .before .before .before .before in
+    let s3 = s4 .before .before .before .before in
+    let s2 = s3 .before .before .before .before in
+    let s1 = s2 .before .before .before .before in
+    s5 .store325 .ensures
+    ∙ ap (storeAt 4 _ _) (s4 .store324 .ensures
+    ∙ ap (storeAt 4 _ _) (s3 .store323 .ensures ∙ ap (storeAt 4 _ _) (s2 .store322 .ensures ∙ ap (storeAt 4 _ _) (s1 .store32 .ensures))))
 
 pub write-state-spec : {M : Type 1} → statement M
 write-state-spec =

@@ -7,7 +7,8 @@ use Rattle.engine_rows.proofs.set_config.Tie as tie
 
 returns : tie.Need-returns
 returns c =
-    c .before .before .write-config .ensures ∙ ap (λ z. putConfig z (c .before .before .before .before .before .before .args .c) (c .before .before .before .before .before .before .args .b .now)) (c .before .before .before .station-row .ensures .0)
+    let a = c .before .before .before .before .before .before .args in
+    c .before .before .write-config .ensures ∙ ap (λ z. putConfig z (a .c) (a .b .now)) (c .before .before .before .station-row .ensures .0)
 
 pub set-config-spec : {M : Type 1} → statement M
 set-config-spec = tie.close (tie.spec (λ c κs. search needs) (λ c κs. search needs) (λ c. search needs) returns)

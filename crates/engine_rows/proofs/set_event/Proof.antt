@@ -7,7 +7,8 @@ use Rattle.engine_rows.proofs.set_event.Tie as tie
 
 returns : tie.Need-returns
 returns c =
-    c .before .before .write-event .ensures ∙ ap (λ z. putEvent z (c .before .before .before .before .before .before .args .e) (c .before .before .before .before .before .before .args .b .now)) (c .before .before .before .slot-row .ensures .0)
+    let a = c .before .before .before .before .before .before .args in
+    c .before .before .write-event .ensures ∙ ap (λ z. putEvent z (a .e) (a .b .now)) (c .before .before .before .slot-row .ensures .0)
 
 pub set-event-spec : {M : Type 1} → statement M
 set-event-spec = tie.close (tie.spec (λ c κs. search needs) (λ c κs. search needs) (λ c. search needs) returns)

@@ -13,7 +13,8 @@ returns c =
 
 returns-2 : tie.Need-returns-2
 returns-2 c =
-    (λ h. c .before .before .store16 .ensures ∙ ap (λ z. storeAt 2 (z + 56 + 2 * (c .before .before .before .before .before .before .before .args .k)) (c .before .before .before .before .before .before .before .args .v) (c .before .before .before .before .before .before .before .args .b .now)) (c .before .before .before .slot-row .ensures .0), λ h. absurd (omega arith))
+    let a = c .before .before .before .before .before .before .before .args in
+    (λ h. c .before .before .store16 .ensures ∙ ap (λ z. storeAt 2 (z + 56 + 2 * (a .k)) (a .v) (a .b .now)) (c .before .before .before .slot-row .ensures .0), λ h. absurd (omega arith))
 
 pub set-number-spec : {M : Type 1} → statement M
 set-number-spec =

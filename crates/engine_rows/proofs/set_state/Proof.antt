@@ -8,7 +8,8 @@ use Rattle.engine_rows.proofs.set_state.Tie as tie
 
 returns : tie.Need-returns
 returns c =
-    c .before .before .write-state .ensures ∙ ap (λ z. putState (z + 32) (c .before .before .before .before .before .before .args .v) (c .before .before .before .before .before .before .args .b .now)) (c .before .before .before .station-row .ensures .0)
+    let a = c .before .before .before .before .before .before .args in
+    c .before .before .write-state .ensures ∙ ap (λ z. putState (z + 32) (a .v) (a .b .now)) (c .before .before .before .station-row .ensures .0)
 
 pub set-state-spec : {M : Type 1} → statement M
 set-state-spec =

@@ -18,11 +18,19 @@ returns-2 c = rw (ne-eqb _ 0 (c .before .before .before .before .if1 .left), ←
 
 returns-3 : tie.Need-returns-3
 unfolding runRead
-returns-3 c = rw (ne-eqb _ 0 (c .before .before .before .before .before .before .before .before .before .if1 .left), ← c .before .before .before .before .before .before .before .before .period .ensures, chain _ _ _ _ _ _ (c .before .before .before .before .before .before .before .send .ensures) _ (c .before .before .before .before .before .read .given .1)) (ap (ahead _) (ap said (sym (c .enum-told2 .given .1)) ∙ c .before .before .send2 .ensures .0))
+returns-3 c =
+    let r = c .before .before .before .before .before in
+    let s = r .before .before in
+    rw (ne-eqb _ 0 (s .before .before .if1 .left), ← s .before .period .ensures, chain _ _ _ _ _ _ (s .send .ensures) _ (r .read .given .1))
+    (ap (ahead _) (ap said (sym (c .enum-told2 .given .1)) ∙ c .before .before .send2 .ensures .0))
 
 returns-4 : tie.Need-returns-4
 unfolding runRead
-returns-4 c = rw (ne-eqb _ 0 (c .before .before .before .before .before .before .before .before .before .before .before .if1 .left), ← c .before .before .before .before .before .before .before .before .before .before .period .ensures, chain _ _ _ _ _ _ (c .before .before .before .before .before .before .before .before .before .send .ensures) _ (c .before .before .before .before .before .before .before .read .given .1)) (ap (ahead _) (single _ _ (c .before .before .before .before .send2 .ensures) _ (c .before .before .frame .given .1)))
+returns-4 c =
+    let r = c .before .before .before .before .before .before .before in
+    let s = r .before .before in
+    rw (ne-eqb _ 0 (s .before .before .if1 .left), ← s .before .period .ensures, chain _ _ _ _ _ _ (s .send .ensures) _ (r .read .given .1))
+    (ap (ahead _) (single _ _ (c .before .before .before .before .send2 .ensures) _ (c .before .before .frame .given .1)))
 
 pub run-read-spec : {M : Type 1} → statement M
 run-read-spec = tie.close (tie.spec (λ c κs. search needs) returns (λ c κs. search needs) (λ c κs. search needs) (λ c. search needs) (λ c. search needs) returns-2 (λ c κs. search needs) (λ c. search needs) (λ c. search needs) returns-3 returns-4)
