@@ -15,7 +15,8 @@ use Rattle.rules.specs.Entry.{entries}
 use Rattle.rules.specs.Calls.{committed, Answers, commit}
 use Rattle.engine_index.specs.Represents.{Cell}
 use Rattle.engine_events.specs.Represents.{heldOf, Holds}
-use Rattle.engine_events.specs.Promises.{AfterHeader, Raises}
+use Rattle.engine_events.specs.Promises.{AfterHeader}
+use Rattle.engine_moves.specs.Promises.{Raises}
 use Rattle.engine_answers.specs.declared.CommitAnswer.the-variants.{Done}
 use Rattle.engine_promises.specs.Represents.{Represents}
 use Rattle.engine_promises.specs.Answers.{commitSaid}

@@ -19,7 +19,7 @@ use Rattle.engine_index.specs.Layout.{slotOf, logAt, IsSlot}
 use Rattle.engine_index.specs.Represents.{Cell, cell, hasRun, Stands}
 use Rattle.engine_index.proofs.Rings.RingEnds.{first-logged}
 use Rattle.engine_events.specs.Represents.{heldOf, Holds}
-use Rattle.engine_events.specs.Promises.{ReleasesEvent}
+use Rattle.engine_moves.specs.Promises.{ReleasesEvent}
 use Rattle.engine_moves.proofs.Cells.Split.{middle-in}
 use Rattle.engine_committing.specs.Steps.{eventsOf, AllRun, Writes}
 use Rattle.engine_promises.proofs.FoundSlots.{cell-slot}

@@ -1,4 +1,4 @@
--- What the calendar names is a station of least time, and it takes a new floor that lies after no held event.
+-- What the calendar names is a station of least time; and where nothing is held.
 use mathlib.Core.Path.{_≡_, refl, sym, _∙_}
 use mathlib.Core.Bool.{Bool, true, false}
 use mathlib.Core.Logic.{_⊎_, inl, inr}
@@ -6,31 +6,23 @@ use mathlib.Core.Option.{Option, none, some}
 use mathlib.Core.List.{List, [], _∷_}
 use Prim.Native.Nat.{ℕ, _+_, _-_, _*_, _≤_, _<_}
 use native.Mathlib.Omega.{arith}
-use borrow.Rule.Slice.PartMut.{putMid}
 use lib.ListN.{length, take, drop, List·getD-eq-default}
 use Rattle.words.proofs.Cases.{lt-or}
 use Rattle.refusal.specs.Tests.{accepted, refused, orNext, judged, says}
 use Rattle.refusal.specs.Numbers.{numberOf}
 use Rattle.line.specs.Station.{Plan}
-use Rattle.rules.specs.Held.{Held, unrun, event, In, Queue}
-use Rattle.rules.proofs.Undo.RunFirst.{first-in}
-use Rattle.rules.proofs.Replay.Registered.{registered-first}
-use Rattle.rings.proofs.Frames.{frame-same, frame-wider}
-use Rattle.calendar.specs.declared.Answer.{Answer}
+use Rattle.rules.specs.Held.{Held, Queue}
 use Rattle.calendar.specs.declared.Least.{Least}
-use Rattle.calendar.specs.Rules.{noneRegistered, LeastAt, lowestChecks, advanceChecks, advanced}
+use Rattle.calendar.specs.Rules.{noneRegistered, LeastAt, lowestChecks}
 use Rattle.calendar.specs.Bytes.{stateOf}
-use Rattle.calendar.specs.Promises.{Obeys, Names}
-use Rattle.calendar.proofs.Tests.{none-some, none-false, any-false}
+use Rattle.calendar.specs.Promises.{Names}
+use Rattle.calendar.proofs.Tests.{none-some, none-false}
 use Rattle.engine_events.specs.Shows.{Shows}
-use Rattle.engine_events.proofs.CalendarShown.{has-registered, named-lowest, named-time, none-shows}
+use Rattle.engine_events.proofs.CalendarShown.{named-lowest, named-time, none-shows}
 use Rattle.engine_index.specs.Represents.{Cell}
-use Rattle.engine_events.specs.Represents.{fitsIn, part, Stores, Holds}
-use Rattle.engine_events.specs.Promises.{AfterHeader, Finds, Raises}
-use Rattle.engine_events.proofs.CalendarPart.{Put, part-put}
+use Rattle.engine_events.specs.Represents.{fitsIn, part, Holds}
+use Rattle.engine_events.specs.Promises.{Finds}
 use Rattle.engine_events.proofs.Fitting.{fits-gone, some-station}
-use Rattle.engine_events.proofs.StationsKept.{stores-kept}
-use Rattle.engine_events.proofs.CalendarAccepts.{accepted-done, advance-accepted}
 
 -- ---- the station of least time
 
@@ -65,50 +57,6 @@ finds n c {end} xs {r} le N =
     names : Names (part n xs) r
     names = let k : end - 64 ≡ 32768 + 64 * n = omega arith in rw k at N
 
--- ---- a floor
-
-stores-at : {p : Plan} {n c now : ℕ} {xs : List ℕ} {q : Queue} {cells : List Cell} (floor : ℕ) → ((y : Held) → In y (q .held) → floor ≤ event y .time)
-    → Stores p n c now xs q cells → Stores p n c floor xs q cells
-stores-at floor f S =
-    record {
-      count = S .count;
-      long = S .long;
-      configs = S .configs;
-      states = S .states;
-      free = S .free;
-      stands = S .stands;
-      places = S .places;
-      held = S .held;
-      times = λ y m. (f y m, S .times y m .1);
-      kids = S .kids;
-    }
-
-pub raised : (n c floor : ℕ) {end : ℕ} (xs zs : List ℕ) {r : Answer} → end ≡ 32832 + 64 * n → 32832 + 64 * n ≤ length xs
-    → length zs ≡ length (take (end - 64) (drop 64 xs))
-    → Obeys (λ q. advanceChecks q floor) (λ q. advanced q floor) (take (end - 64) (drop 64 xs)) r zs
-    → AfterHeader xs (putMid 64 (end - 64) xs zs) × Raises n c floor xs (putMid 64 (end - 64) xs zs)
-raised n c floor {end} xs zs {r} le long size O = (
-  frame-wider 64 (length xs) (omega arith) (omega arith) (put .1 .1),
-  λ p now q cells H a b f.
-      let C = H .calendar in
-      let O : Obeys (λ q. advanceChecks q floor) (λ q. advanced q floor) (part n xs) r zs = rw (put .0) at O in
-      let early = any-false floor (stateOf (part n xs) .times)
-      (λ x u e. let g = registered-first x (q .held) u (has-registered x u (C .shows) e) in omega (arith, f (unrun (g .0)) (first-in (g .1)), g .2)) in
-      let done = accepted-done r (O .answer (C .sound) ∙ advance-accepted (stateOf (part n xs)) floor b (omega (arith, C .floor)) early) in
-      let state : stateOf zs ≡ advanced (stateOf (part n xs)) floor = O .state (C .sound) done in
-      record {
-        stores = stores-at floor f (stores-kept (put .1 .1) (omega arith) (H .stores));
-        calendar = record {
-          sound = rw (put .1 .0) (O .sound (C .sound));
-          floor = rw (put .1 .0, state);
-          shows = rw (put .1 .0, state) (C .shows);
-        };
-      },
-)
-  where
-    put : (take (end - 64) (drop 64 xs) ≡ part n xs) × Put n xs zs (putMid 64 (end - 64) xs zs)
-    put = part-put n xs zs le long size
-
 -- ---- nothing is held: the numbers are out of range, or there is no station
 
 abbrev pub Nothing : ℕ → ℕ → List ℕ → Type 0
@@ -122,6 +70,3 @@ nothing-station n c xs z p now q cells H = omega (arith, some-station (H .calend
 
 pub finds-none : (n c : ℕ) (xs : List ℕ) {r : Least} → Nothing n c xs → Finds n c xs r
 finds-none n c xs N = record { none = λ p now q cells H e k. absurd (N p now q cells H); some = λ p now q cells H s t k. absurd (N p now q cells H) }
-
-pub raises-none : (n c floor : ℕ) (xs : List ℕ) → Nothing n c xs → AfterHeader xs xs × Raises n c floor xs xs
-raises-none n c floor xs N = (frame-same 64 (length xs) xs, λ p now q cells H _ _ _. absurd (N p now q cells H))

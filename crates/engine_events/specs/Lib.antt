@@ -1,4 +1,3 @@
 pub mod Shows
 pub mod Represents
 pub mod Promises
-pub mod RunCount

@@ -8,8 +8,10 @@ ghost use mathlib.Core.Bool.{true, false};
 ghost use Prim.Native.Nat.{_+_, _*_, _≤_, _<_};
 ghost use lib.ListN.{length};
 ghost use Rattle.rings.specs.Table.{Frame};
-ghost use Rattle.engine_events.specs.RunCount.{runsBelow};
-ghost use Rattle.engine_events.specs.Promises.{AfterHeader, Tells, HoldsEvent, RunsEvent, UnrunsEvent, DiscardsEvent, ReleasesEvent, Raises, ClearsEvents};
+ghost use Rattle.engine_moves.specs.RunCount.{runsBelow};
+ghost use Rattle.engine_events.specs.Promises.{AfterHeader};
+ghost use Rattle.engine_moves.specs.Steps.{Tells};
+ghost use Rattle.engine_moves.specs.Promises.{HoldsEvent, RunsEvent, UnrunsEvent, DiscardsEvent, ReleasesEvent, Raises, ClearsEvents};
 use line::Event;
 use line::State;
 

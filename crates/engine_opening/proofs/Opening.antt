@@ -21,7 +21,8 @@ use Rattle.engine_rows.specs.Layout.{stationRow}
 use Rattle.engine_records.specs.Records.{stateAt, storedConfig}
 use Rattle.engine_rows.proofs.Rows.{word-in, config-in, state-in, header-station, row-other}
 use Rattle.engine_events.specs.Represents.{Holds}
-use Rattle.engine_events.specs.Promises.{AfterHeader, ClearsEvents}
+use Rattle.engine_events.specs.Promises.{AfterHeader}
+use Rattle.engine_moves.specs.Promises.{ClearsEvents}
 use Rattle.engine_events.proofs.Fitting.{fits-in}
 use Rattle.engine_answers.specs.declared.OpenAnswer.{OpenAnswer}
 use Rattle.engine_answers.specs.declared.OpenAnswer.the-variants.{Done, Refused as Unopened}

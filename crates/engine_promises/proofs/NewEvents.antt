@@ -6,7 +6,7 @@ use Rattle.rules.specs.Held.{Held, event}
 use Rattle.rules.proofs.Members.{all-in}
 use Rattle.rules.proofs.Replay.RunsLeft.{differ-same}
 use Rattle.rules.proofs.Undo.Agree as G
-use Rattle.engine_events.specs.Promises.{New}
+use Rattle.engine_moves.specs.Promises.{New}
 
 pub as-new : (y : Event) (h : List Held) → G.New y h → New y h
 as-new y h a z m = differ-same (differ-sym (all-in (λ v. Differ y (event v)) m a))

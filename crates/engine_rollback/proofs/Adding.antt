@@ -25,7 +25,7 @@ use Rattle.rules.proofs.Calls.Room.{does-length}
 use Rattle.engine_records.specs.Records.{EventFits}
 use Rattle.engine_index.specs.Represents.{Cell, cell}
 use Rattle.engine_events.specs.Represents.{From, heldOf}
-use Rattle.engine_events.specs.Promises.{Becomes, New, HoldsEvent}
+use Rattle.engine_moves.specs.Promises.{Becomes, New, HoldsEvent}
 use Rattle.engine_rollback.specs.BetweenSteps.{Mid, RollsTo}
 use Rattle.engine_rollback.proofs.Cells.{held-has, has-held, held-length, from-on, from-under}
 

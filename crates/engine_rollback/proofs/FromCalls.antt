@@ -15,7 +15,7 @@ use Rattle.engine_records.specs.Records.{eventAt}
 use Rattle.engine_index.specs.Layout.{slotOf}
 use Rattle.engine_index.specs.Represents.{Cell, cell}
 use Rattle.engine_events.specs.Represents.{Has}
-use Rattle.engine_events.specs.Promises.{HoldsEvent, UnrunsEvent, DiscardsEvent}
+use Rattle.engine_moves.specs.Promises.{HoldsEvent, UnrunsEvent, DiscardsEvent}
 use Rattle.engine_rollback.specs.BetweenSteps.{Mid}
 use Rattle.engine_rollback.specs.Promises.{Undoes, UndoesFrom, RemovesBelow, Removes, Adds}
 use Rattle.engine_rollback.proofs.Removal.{target-inside, removed, removed-clear}

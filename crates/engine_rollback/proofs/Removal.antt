@@ -16,7 +16,7 @@ use Rattle.rules.proofs.Undo.Agree.{clear-none}
 use Rattle.rules.proofs.Undo.Count.{delete-same-runs}
 use Rattle.engine_index.specs.Represents.{Cell, cell}
 use Rattle.engine_events.specs.Represents.{Has, Stores}
-use Rattle.engine_events.specs.Promises.{Becomes, DiscardsEvent}
+use Rattle.engine_moves.specs.Promises.{Becomes, DiscardsEvent}
 use Rattle.engine_rollback.specs.BetweenSteps.{Mid, RollsTo}
 use Rattle.engine_rollback.proofs.Cells.{has-held, from-same, from-on, same-node}
 use Rattle.engine_rollback.proofs.TakenOut.{is-held, is-waiting, fresh-unsent}

@@ -8,7 +8,7 @@ use native.Mathlib.Omega.{arith}
 use lib.Dec.{eqb}
 use Rattle.words.specs.Le.{loadAt}
 use Rattle.engine_rows.specs.Layout.{slotRow}
-use Rattle.engine_events.specs.RunCount.{runsBelow}
+use Rattle.engine_moves.specs.RunCount.{runsBelow}
 
 pub runs-few : (n : ℕ) (xs : List ℕ) (c : ℕ) → runsBelow n xs c ≤ c
 unfolding runsBelow

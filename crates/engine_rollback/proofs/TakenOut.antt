@@ -13,7 +13,7 @@ use Rattle.rules.proofs.Undo.Cascade.{Ok}
 use Rattle.rules.proofs.Replay.Neat.{run-in}
 use Rattle.rules.proofs.Undo.Exist.{IsHeld, is-unrun, is-run, all-inserted, waiting-held}
 use Rattle.rules.proofs.Replay.Registered.{differ-same}
-use Rattle.engine_events.specs.Promises.{Unsent}
+use Rattle.engine_moves.specs.Promises.{Unsent}
 
 each-inserted : (P : Event → Type 0) (xs ws : List Event) → All P (insertAll xs ws) → All P xs
 unfolding insertAll

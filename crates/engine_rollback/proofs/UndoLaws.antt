@@ -25,7 +25,7 @@ use Rattle.engine_rows.specs.Layout.{slotRow}
 use Rattle.engine_index.specs.Layout.{slotOf}
 use Rattle.engine_index.specs.Represents.{Cell, cell}
 use Rattle.engine_events.specs.Represents.{Has, Holds, Nodes, none, nonzero, sendsAt}
-use Rattle.engine_events.specs.Promises.{NoneWaits, Becomes}
+use Rattle.engine_moves.specs.Promises.{NoneWaits, Becomes}
 use Rattle.engine_rollback.specs.BetweenSteps.{Mid, RollsTo}
 use Rattle.engine_rollback.specs.Promises.{RemovesBelow}
 use Rattle.engine_rollback.proofs.SendTargets.{sends-down}

@@ -10,7 +10,7 @@ use Rattle.rules.proofs.Undo.Cascade.{Ok}
 use Rattle.rules.proofs.Replay.Neat.{Neat}
 use Rattle.engine_index.specs.Represents.{Cell}
 use Rattle.engine_events.specs.Represents.{Holds}
-use Rattle.engine_events.specs.Promises.{Becomes}
+use Rattle.engine_moves.specs.Promises.{Becomes}
 
 -- the bytes hold q, which is in order and a replay of the machine with the waiting events ws and the states st
 pub record Mid (p : Plan) (n c now : ℕ) (xs : List ℕ) (q : Queue) (cells : List Cell) (ws : List Event) (st : States) : Type 0 where

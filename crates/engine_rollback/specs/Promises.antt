@@ -15,7 +15,7 @@ use Rattle.rules.proofs.Replay.Replay.{Fresh, Clear}
 use Rattle.engine_records.specs.Records.{EventFits}
 use Rattle.engine_index.specs.Represents.{Cell, cell}
 use Rattle.engine_events.specs.Represents.{Has}
-use Rattle.engine_events.specs.Promises.{New}
+use Rattle.engine_moves.specs.Promises.{New}
 use Rattle.engine_rollback.specs.BetweenSteps.{Mid, RollsTo}
 
 -- "to undo a run event is to make it unrun, restore its station's state from before it, and remove its sends": the event of node x

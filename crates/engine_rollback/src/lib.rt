@@ -8,7 +8,7 @@
 ghost use mathlib.Core.Path.{_≡_};
 ghost use mathlib.Core.Bool.{true};
 ghost use Prim.Native.Nat.{_+_, _≤_, _<_};
-ghost use Rattle.engine_events.specs.RunCount.{runsBelow};
+ghost use Rattle.engine_moves.specs.RunCount.{runsBelow};
 ghost use Rattle.engine_events.specs.Promises.{AfterHeader};
 ghost use Rattle.engine_rollback.specs.Promises.{Undoes, UndoesFrom, RemovesBelow, Removes, Adds};
 use line::Event;

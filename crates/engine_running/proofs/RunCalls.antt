@@ -21,7 +21,8 @@ use Rattle.rules.specs.Calls.{lowest}
 use Rattle.rings.specs.Table.{nextOf}
 use Rattle.engine_index.specs.Layout.{linksAt, FindsSlot}
 use Rattle.engine_events.specs.Represents.{fitsIn}
-use Rattle.engine_events.specs.Promises.{AfterHeader, RunsEvent, Finds}
+use Rattle.engine_events.specs.Promises.{AfterHeader, Finds}
+use Rattle.engine_moves.specs.Promises.{RunsEvent}
 use Rattle.engine_events.proofs.Fitting.{fits-gone}
 use Rattle.engine_answers.specs.declared.RunAnswer.{RunAnswer}
 use Rattle.engine_answers.specs.declared.RunAnswer.the-variants as N

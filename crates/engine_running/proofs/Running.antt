@@ -45,7 +45,8 @@ use Rattle.engine_records.proofs.Fits.{event-fits, state-fits}
 use Rattle.engine_index.specs.Layout.{linksAt, slotOf, IsSlot, FindsSlot}
 use Rattle.engine_index.specs.Represents.{cell}
 use Rattle.engine_events.specs.Represents.{nonzero, Nodes, none}
-use Rattle.engine_events.specs.Promises.{AfterHeader, RunsEvent, Becomes}
+use Rattle.engine_events.specs.Promises.{AfterHeader}
+use Rattle.engine_moves.specs.Promises.{RunsEvent, Becomes}
 use Rattle.engine_rollback.proofs.Cells.{held-length}
 use Rattle.engine_promises.specs.Represents.{Represents}
 use Rattle.engine_promises.specs.Promises as P

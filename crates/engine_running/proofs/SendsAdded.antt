@@ -32,7 +32,7 @@ use Rattle.rules.proofs.Calls.Room.{does-length}
 use Rattle.engine_records.specs.Records.{EventFits}
 use Rattle.engine_index.specs.Represents.{Cell, cell}
 use Rattle.engine_events.specs.Represents.{heldOf, Has, nonzero, Nodes}
-use Rattle.engine_events.specs.Promises.{New, Becomes}
+use Rattle.engine_moves.specs.Promises.{New, Becomes}
 use Rattle.engine_moves.proofs.Cells.Members.{member}
 use Rattle.engine_rollback.specs.BetweenSteps.{Mid, RollsTo}
 use Rattle.engine_rollback.specs.Promises.{Adds}

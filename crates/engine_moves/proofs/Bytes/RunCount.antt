@@ -10,7 +10,7 @@ use lib.Dec.{eqb}
 use Rattle.words.specs.Le.{loadAt}
 use Rattle.rules.proofs.Update.{Which, this, other, which}
 use Rattle.engine_rows.specs.Layout.{slotRow}
-use Rattle.engine_events.specs.RunCount.{runsBelow}
+use Rattle.engine_moves.specs.RunCount.{runsBelow}
 
 module _ (n : ℕ) (xs ys : List ℕ) where
   abbrev Same : ℕ → Type 0

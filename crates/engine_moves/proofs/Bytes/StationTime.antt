@@ -33,7 +33,7 @@ use Rattle.engine_index.proofs.Rings.RingSearches.{First, first, waits}
 use Rattle.engine_index.proofs.Changes.ToRules as rules
 use Rattle.engine_index.proofs.Changes.ToRules.{least-some, least-none}
 use Rattle.engine_events.specs.Represents.{part, heldOf, Calendared, Untold}
-use Rattle.engine_events.specs.Promises.{Tells}
+use Rattle.engine_moves.specs.Steps.{Tells}
 use Rattle.engine_events.proofs.CalendarPart.{Put, part-put}
 use Rattle.engine_events.proofs.StationsKept.{stores-kept}
 use Rattle.engine_events.proofs.CalendarAccepts.{accepted-done, register-accepted, unregister-accepted}

@@ -16,7 +16,7 @@ use Rattle.rules.proofs.Replay.LeastUnrun.{least-this, least-other, least-ran}
 use Rattle.engine_index.specs.Represents.{Cell, cell, ringOf, AllBefore, AllAfter, Sorted, NoneIn}
 use Rattle.engine_index.proofs.Rings.Order.{sorted-before, sorted-after}
 use Rattle.engine_events.specs.Represents.{heldOf, Has}
-use Rattle.engine_events.specs.Promises.{NoneWaits}
+use Rattle.engine_moves.specs.Promises.{NoneWaits}
 use Rattle.engine_moves.proofs.Cells.Split.{held-in}
 
 -- ---- member by member

@@ -8,7 +8,7 @@ use Rattle.line.proofs.Order.{Lt, tr}
 use Rattle.rules.specs.Held.{event, same}
 use Rattle.engine_index.specs.Represents.{Cell, AllBefore, AllAfter, Sorted}
 use Rattle.engine_events.specs.Represents.{heldOf}
-use Rattle.engine_events.specs.Promises.{New}
+use Rattle.engine_moves.specs.Promises.{New}
 
 pub record Parts (e : Event) (cells : List Cell) : Type 0 where
   pub front : List Cell

@@ -21,7 +21,8 @@ use Rattle.engine_index.specs.Layout.{indexBytes}
 use Rattle.engine_index.specs.Opening as index
 use Rattle.engine_index.specs.Opening.{places}
 use Rattle.engine_events.specs.Represents.{fitsIn, part}
-use Rattle.engine_events.specs.Promises.{AfterHeader, ClearsEvents}
+use Rattle.engine_events.specs.Promises.{AfterHeader}
+use Rattle.engine_moves.specs.Promises.{ClearsEvents}
 use Rattle.engine_events.proofs.CalendarPart.{Put, part-put, part-kept}
 use Rattle.engine_events.proofs.StationsKept.{config-kept, state-kept}
 use Rattle.engine_events.proofs.CalendarAccepts.{accepted-done, open-accepted}

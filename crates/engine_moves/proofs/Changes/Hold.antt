@@ -19,7 +19,8 @@ use Rattle.engine_index.specs.Represents.{Cell, cell, Stands, AllBefore, AllAft
 use Rattle.engine_index.specs.Promises.{Puts}
 use Rattle.engine_index.proofs.Changes.ToRules.{place-cells}
 use Rattle.engine_events.specs.Represents.{heldOf, Holds}
-use Rattle.engine_events.specs.Promises.{Becomes, Tells, HoldsEvent, New}
+use Rattle.engine_moves.specs.Promises.{Becomes, HoldsEvent, New}
+use Rattle.engine_moves.specs.Steps.{Tells}
 use Rattle.engine_events.proofs.CalendarPart.{part-kept}
 use Rattle.engine_moves.proofs.Cells.Split.{beside-in, run-beside, from-join, length-middle, held-map}
 use Rattle.engine_moves.proofs.Cells.OrderSplit.{order-split}

@@ -27,7 +27,8 @@ use Rattle.engine_index.specs.Promises.{Drops}
 use Rattle.engine_index.specs.Promises.{Releases as IndexReleases}
 use Rattle.engine_index.proofs.Changes.ToRules.{delete-cells}
 use Rattle.engine_events.specs.Represents.{heldOf, Has, Stores, Holds}
-use Rattle.engine_events.specs.Promises.{Becomes, Tells, ReleasesEvent, Unsent}
+use Rattle.engine_moves.specs.Promises.{Becomes, ReleasesEvent, Unsent}
+use Rattle.engine_moves.specs.Steps.{Tells}
 use Rattle.engine_events.proofs.CalendarPart.{part-kept}
 use Rattle.engine_moves.proofs.Cells.Split.{at-split, beside-or, beside-in, from-leave, length-middle, held-map, held-in, in-held}
 use Rattle.engine_moves.proofs.Cells.SendNodes.{Still}

@@ -24,7 +24,8 @@ use Rattle.engine_index.specs.Promises.{Marks}
 use Rattle.engine_index.proofs.Changes.ToRules.{mark-cells}
 use Rattle.engine_index.proofs.Slots.SlotBytes.{state-frame}
 use Rattle.engine_events.specs.Represents.{part, heldOf, Has, nonzero, sendsAt, Nodes, Kids, Stores, Calendared, Holds}
-use Rattle.engine_events.specs.Promises.{Becomes, Tells}
+use Rattle.engine_moves.specs.Promises.{Becomes}
+use Rattle.engine_moves.specs.Steps.{Tells}
 use Rattle.engine_events.proofs.CalendarPart.{part-kept}
 use Rattle.engine_moves.proofs.Cells.Split.{at-split, beside-or, beside-in, middle-in, from-swap, length-swap, held-map}
 use Rattle.engine_moves.proofs.Cells.SendNodes.{nodes-from, sends-spared}

@@ -21,7 +21,8 @@ use Rattle.engine_index.specs.Promises.{Unmarks}
 use Rattle.engine_index.proofs.Changes.ToRules.{unmark-cells}
 use Rattle.engine_index.proofs.Slots.SlotBytes.{state-frame}
 use Rattle.engine_events.specs.Represents.{heldOf, Has, Holds}
-use Rattle.engine_events.specs.Promises.{Becomes, Tells, NoneWaits}
+use Rattle.engine_moves.specs.Promises.{Becomes, NoneWaits}
+use Rattle.engine_moves.specs.Steps.{Tells}
 use Rattle.engine_events.proofs.CalendarPart.{part-kept}
 use Rattle.engine_moves.proofs.Cells.Split.{at-split, beside-in, run-beside, middle-in, from-swap, length-swap, held-map}
 use Rattle.engine_moves.proofs.Cells.NoneBetween.{none-later, none-waits}

@@ -10,7 +10,7 @@ use Rattle.rings.specs.Table.{Frame}
 use Rattle.engine_rows.specs.Layout.{slotRow}
 use Rattle.engine_index.specs.Layout.{indexBytes}
 use Rattle.engine_events.specs.Represents.{fitsIn}
-use Rattle.engine_events.specs.Promises.{Tells}
+use Rattle.engine_moves.specs.Steps.{Tells}
 use Rattle.engine_events.proofs.Fitting.{fits-true}
 
 -- the calendar is told

@@ -9,7 +9,8 @@ use Rattle.line.specs.declared.Event.{Event}
 use Rattle.engine_index.specs.SlotPromises.{Spares}
 use Rattle.engine_index.specs.Promises.{Puts}
 use Rattle.engine_events.specs.Represents.{fitsIn}
-use Rattle.engine_events.specs.Promises.{AfterHeader, HoldsEvent}
+use Rattle.engine_events.specs.Promises.{AfterHeader}
+use Rattle.engine_moves.specs.Promises.{HoldsEvent}
 use Rattle.engine_events.proofs.Fitting.{fits-gone}
 use Rattle.engine_events.proofs.AfterHeader.{after-header, after-header-same, after-header-on}
 use Rattle.engine_moves.proofs.Changes.Hold.{takes}

@@ -14,8 +14,10 @@ use Rattle.engine_index.specs.Layout.{slotOf, IsSlot}
 use Rattle.engine_index.specs.SlotPromises.{Spares, Sets}
 use Rattle.engine_index.specs.Promises.{Drops}
 use Rattle.engine_index.specs.Promises.{Releases as IndexReleases}
-use Rattle.engine_events.specs.RunCount.{runsBelow}
-use Rattle.engine_events.specs.Promises.{AfterHeader, Tells, DiscardsEvent, ReleasesEvent}
+use Rattle.engine_moves.specs.RunCount.{runsBelow}
+use Rattle.engine_events.specs.Promises.{AfterHeader}
+use Rattle.engine_moves.specs.Steps.{Tells}
+use Rattle.engine_moves.specs.Promises.{DiscardsEvent, ReleasesEvent}
 use Rattle.engine_events.proofs.AfterHeader.{after-header, after-header-same, after-header-on}
 use Rattle.engine_moves.proofs.Bytes.RunCount.{runs-most}
 use Rattle.engine_moves.proofs.Changes.Leave.{leaves, releases}

@@ -23,7 +23,9 @@ use Rattle.engine_index.specs.Represents.{Cell, cell}
 use Rattle.engine_index.specs.Promises.{Marks}
 use Rattle.engine_index.proofs.Slots.SlotBytes.{state-frame}
 use Rattle.engine_events.specs.Represents.{Has, nonzero, Nodes}
-use Rattle.engine_events.specs.Promises.{AfterHeader, Becomes, Tells, RunsEvent}
+use Rattle.engine_events.specs.Promises.{AfterHeader}
+use Rattle.engine_moves.specs.Promises.{Becomes, RunsEvent}
+use Rattle.engine_moves.specs.Steps.{Tells}
 use Rattle.engine_events.proofs.AfterHeader.{after-header, after-header-same, after-header-on}
 use Rattle.engine_moves.proofs.Changes.Run.{notedIn, runs}
 use Rattle.engine_moves.proofs.FromCalls.CallsOfChanges.{Told, Indexed}

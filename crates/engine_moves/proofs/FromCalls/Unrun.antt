@@ -23,8 +23,10 @@ use Rattle.engine_index.specs.Represents.{Cell, cell}
 use Rattle.engine_index.specs.Promises.{Unmarks}
 use Rattle.engine_index.proofs.Slots.SlotBytes.{state-frame}
 use Rattle.engine_events.specs.Represents.{Has, Stores}
-use Rattle.engine_events.specs.RunCount.{runsBelow}
-use Rattle.engine_events.specs.Promises.{AfterHeader, Becomes, Tells, UnrunsEvent, NoneWaits}
+use Rattle.engine_moves.specs.RunCount.{runsBelow}
+use Rattle.engine_events.specs.Promises.{AfterHeader}
+use Rattle.engine_moves.specs.Promises.{Becomes, UnrunsEvent, NoneWaits}
+use Rattle.engine_moves.specs.Steps.{Tells}
 use Rattle.engine_events.proofs.AfterHeader.{after-header, after-header-same, after-header-on}
 use Rattle.engine_moves.proofs.Cells.Members.{member}
 use Rattle.engine_moves.proofs.Bytes.RunCount.{runs-less}

@@ -2,7 +2,8 @@
 use mathlib.Core.Path.{refl}
 use native.Mathlib.Omega.{arith}
 use Rattle.engine_events.proofs.Fitting.{fits-true}
-use Rattle.engine_events.proofs.LeastStation.{raised, nothing-fits, nothing-station, raises-none}
+use Rattle.engine_moves.proofs.FloorRaised.{raised, raises-none}
+use Rattle.engine_events.proofs.LeastStation.{nothing-fits, nothing-station}
 use borrow.Author.Needs.{needs}
 use Rattle.engine_moves.proofs.raise.Statement.{statement}
 use Rattle.engine_moves.proofs.raise.Tie as tie

@@ -6,7 +6,7 @@ use native.Mathlib.Omega.{arith}
 use borrow.Author.Needs.{needs}
 use borrow.Fn.Kinds.{In}
 use borrow.Fn.PlainCycle.{Measures, is, falls, and}
-use Rattle.engine_events.specs.RunCount.{runsBelow}
+use Rattle.engine_moves.specs.RunCount.{runsBelow}
 use Rattle.engine_events.specs.Promises.{AfterHeader}
 use Rattle.engine_events.proofs.AfterHeader.{after-header-same, after-header-on}
 use Rattle.engine_rollback.proofs.RunCount.{runs-few, runs-same}

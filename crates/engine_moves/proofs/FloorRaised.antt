@@ -1,0 +1,71 @@
+-- The calendar takes a new floor that lies after no held event.
+use mathlib.Core.Path.{_≡_, _∙_}
+use mathlib.Core.List.{List}
+use Prim.Native.Nat.{ℕ, _+_, _-_, _*_, _≤_}
+use native.Mathlib.Omega.{arith}
+use borrow.Rule.Slice.PartMut.{putMid}
+use lib.ListN.{length, take, drop}
+use Rattle.line.specs.Station.{Plan}
+use Rattle.rules.specs.Held.{Held, unrun, event, In, Queue}
+use Rattle.rules.proofs.Undo.RunFirst.{first-in}
+use Rattle.rules.proofs.Replay.Registered.{registered-first}
+use Rattle.rings.proofs.Frames.{frame-same, frame-wider}
+use Rattle.calendar.specs.declared.Answer.{Answer}
+use Rattle.calendar.specs.Rules.{advanceChecks, advanced}
+use Rattle.calendar.specs.Bytes.{stateOf}
+use Rattle.calendar.specs.Promises.{Obeys}
+use Rattle.calendar.proofs.Tests.{any-false}
+use Rattle.engine_events.proofs.CalendarShown.{has-registered}
+use Rattle.engine_index.specs.Represents.{Cell}
+use Rattle.engine_events.specs.Represents.{part, Stores}
+use Rattle.engine_events.specs.Promises.{AfterHeader}
+use Rattle.engine_moves.specs.Promises.{Raises}
+use Rattle.engine_events.proofs.CalendarPart.{Put, part-put}
+use Rattle.engine_events.proofs.StationsKept.{stores-kept}
+use Rattle.engine_events.proofs.CalendarAccepts.{accepted-done, advance-accepted}
+use Rattle.engine_events.proofs.LeastStation.{Nothing}
+
+stores-at : {p : Plan} {n c now : ℕ} {xs : List ℕ} {q : Queue} {cells : List Cell} (floor : ℕ) → ((y : Held) → In y (q .held) → floor ≤ event y .time)
+    → Stores p n c now xs q cells → Stores p n c floor xs q cells
+stores-at floor f S =
+    record {
+      count = S .count;
+      long = S .long;
+      configs = S .configs;
+      states = S .states;
+      free = S .free;
+      stands = S .stands;
+      places = S .places;
+      held = S .held;
+      times = λ y m. (f y m, S .times y m .1);
+      kids = S .kids;
+    }
+
+pub raised : (n c floor : ℕ) {end : ℕ} (xs zs : List ℕ) {r : Answer} → end ≡ 32832 + 64 * n → 32832 + 64 * n ≤ length xs
+    → length zs ≡ length (take (end - 64) (drop 64 xs))
+    → Obeys (λ q. advanceChecks q floor) (λ q. advanced q floor) (take (end - 64) (drop 64 xs)) r zs
+    → AfterHeader xs (putMid 64 (end - 64) xs zs) × Raises n c floor xs (putMid 64 (end - 64) xs zs)
+raised n c floor {end} xs zs {r} le long size O = (
+  frame-wider 64 (length xs) (omega arith) (omega arith) (put .1 .1),
+  λ p now q cells H a b f.
+      let C = H .calendar in
+      let O : Obeys (λ q. advanceChecks q floor) (λ q. advanced q floor) (part n xs) r zs = rw (put .0) at O in
+      let early = any-false floor (stateOf (part n xs) .times)
+      (λ x u e. let g = registered-first x (q .held) u (has-registered x u (C .shows) e) in omega (arith, f (unrun (g .0)) (first-in (g .1)), g .2)) in
+      let done = accepted-done r (O .answer (C .sound) ∙ advance-accepted (stateOf (part n xs)) floor b (omega (arith, C .floor)) early) in
+      let state : stateOf zs ≡ advanced (stateOf (part n xs)) floor = O .state (C .sound) done in
+      record {
+        stores = stores-at floor f (stores-kept (put .1 .1) (omega arith) (H .stores));
+        calendar = record {
+          sound = rw (put .1 .0) (O .sound (C .sound));
+          floor = rw (put .1 .0, state);
+          shows = rw (put .1 .0, state) (C .shows);
+        };
+      },
+)
+  where
+    put : (take (end - 64) (drop 64 xs) ≡ part n xs) × Put n xs zs (putMid 64 (end - 64) xs zs)
+    put = part-put n xs zs le long size
+
+pub raises-none : (n c floor : ℕ) (xs : List ℕ) → Nothing n c xs → AfterHeader xs xs × Raises n c floor xs xs
+raises-none n c floor xs N = (frame-same 64 (length xs) xs, λ p now q cells H _ _ _. absurd (N p now q cells H))
