@@ -11,5 +11,5 @@ pub mod Links
 pub mod Changes
 pub mod RingLaws
 pub mod Families
-pub mod Steps
+pub mod WalkSteps
 pub mod Walks

@@ -10,7 +10,7 @@ use Rattle.rings.specs.Walk.{steps, Passes}
 use Rattle.rings.proofs.Runs.{run-first}
 use Rattle.rings.proofs.Mirror.{mirror, head-reverse}
 use Rattle.rings.proofs.Places.{parted, ring-length}
-use Rattle.rings.proofs.Steps.{at-stop, at-step}
+use Rattle.rings.proofs.WalkSteps.{at-stop, at-step}
 
 steps-run : (nx pv : ℕ → ℕ) (stop : ℕ → Bool) (s p : ℕ) (ys zs : List ℕ) (fuel : ℕ) → Passes stop ys → stop (headOf zs s) ≡ true → length ys ≤ fuel
     → Run nx pv p ((ys ++ zs) ++ s ∷ []) → steps nx stop fuel (headOf (ys ++ zs) s) ≡ headOf zs s

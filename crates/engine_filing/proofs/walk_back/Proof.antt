@@ -4,7 +4,7 @@ use native.Mathlib.Omega.{arith}
 use borrow.Author.Needs.{needs}
 use Rattle.rings.specs.Table.{prevOf}
 use Rattle.rings.specs.Walk.{steps}
-use Rattle.rings.proofs.Steps.{at-none, at-stop, at-step}
+use Rattle.rings.proofs.WalkSteps.{at-none, at-stop, at-step}
 use Rattle.engine_index.specs.Steps.{stopAt}
 use Rattle.engine_filing.proofs.walk_back.Statement.{statement}
 use Rattle.engine_filing.proofs.walk_back.Tie as tie

@@ -14,7 +14,7 @@ use Rattle.line.specs.Event.{before}
 use Rattle.rules.specs.Held.{unrun, ran}
 use Rattle.rings.specs.Table.{nextOf, prevOf, linkAfter, unlinked}
 use Rattle.rings.specs.Walk.{steps}
-use Rattle.rings.proofs.Steps.{at-stop}
+use Rattle.rings.proofs.WalkSteps.{at-stop}
 use Rattle.rings.proofs.Confined.{unlink-frame}
 use Rattle.engine_rows.specs.Layout.{slotRow}
 use Rattle.engine_records.specs.Records.{eventAt, putEvent, putState}
