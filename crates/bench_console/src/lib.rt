@@ -66,7 +66,7 @@ fn say(o: Output) {
 
 // Entry k of a commit's output.
 fn say_entry(out: &[u8], k: u16) {
-    let e = engine_records::read_event(out, 24 * k as u32);
+    let e = entry::read(out, 24 * k as u32);
     let mut text = [0u8; 96];
     let n = bench_printing::print_entry(&mut text, e);
     put(&text, n);

@@ -11,8 +11,8 @@ use Rattle.words.specs.Le.{loadAt, storeAt}
 use Rattle.line.specs.Station.{Plan}
 use Rattle.rules.specs.Held.{Held, event, In, unrunBefore, logged, kept}
 use Rattle.rules.specs.Engine.{Engine, Commit, Answer, Refused, Committed}
-use Rattle.rules.specs.Entry.{entries}
-use Rattle.rules.specs.Calls.{committed, Answers, commit}
+use Rattle.entry.specs.Entry.{entries}
+use Rattle.rules.specs.Calls.{committed, Answers, commit, atCommit}
 use Rattle.engine_index.specs.Represents.{Cell}
 use Rattle.engine_events.specs.Represents.{heldOf, Holds}
 use Rattle.engine_events.specs.Promises.{AfterHeader}
@@ -65,7 +65,7 @@ module _ (time : ℕ) (xs output : List ℕ) {n c : ℕ} (s : n ≡ atMost 256 (
     -- ---- the answer
 
     abbrev after : Engine
-    after = record { capacity = e .capacity; next = e .next; now = time; queue = record { states = e .queue .states; held = kept time (e .queue .held) } }
+    after = atCommit e time
 
     -- what is left of the queue
     abbrev Left : ℕ → ℕ → ℕ → List ℕ → Type 0

@@ -14,7 +14,7 @@ use Rattle.rings.specs.Table.{nextOf}
 use Rattle.rings.specs.Ring.{headOf}
 use Rattle.rings.proofs.Places.{first-of, next-of}
 use Rattle.engine_rows.specs.Layout.{slotRow}
-use Rattle.engine_records.proofs.RecordLaws.{event-time}
+use Rattle.entry.proofs.EntryLaws.{event-time}
 use Rattle.engine_index.specs.Layout.{slotOf, logAt, IsSlot}
 use Rattle.engine_index.specs.Represents.{Cell, HeldAt, Stored, Stands, hasRun, nodesBy}
 use Rattle.engine_index.proofs.Places.Layout.{one}

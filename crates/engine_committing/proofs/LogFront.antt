@@ -9,7 +9,7 @@ use lib.ListN.{length}
 use Rattle.line.specs.declared.Event.{Event}
 use Rattle.line.specs.declared.State.{State}
 use Rattle.line.proofs.Order.{asym, later-time}
-use Rattle.line.proofs.All.{All}
+use Rattle.line.specs.Order.{All}
 use Rattle.rules.specs.Held.{Held, unrun, ran, event, unrunBefore, logged, kept}
 use Rattle.rules.proofs.Calls.Commit.{Early, early, late, isEarly}
 use Rattle.engine_index.specs.Represents.{Cell, cell, AllAfter, Sorted, hasRun}

@@ -12,11 +12,10 @@ use Rattle.line.specs.declared.Event.{Event}
 use Rattle.line.specs.Station.{Plan}
 use Rattle.line.proofs.Order.{asym}
 use Rattle.rules.specs.Held.{Held, event, Queue, unrun, ran, Lowest, noneUnrun, unrunBefore}
-use Rattle.rules.proofs.Replay.Replay.{Above, Sorted}
+use Rattle.rules.specs.Replay.{Above, InOrder}
 use Rattle.rules.proofs.Calls.Commit.{Early, early, late, isEarly}
 use Rattle.rules.proofs.Calls.Tests.{none-early, some-early}
-use Rattle.engine_index.specs.Represents.{Cell, AllAfter}
-use Rattle.engine_index.specs.Represents.{Sorted as InOrder}
+use Rattle.engine_index.specs.Represents.{Cell, AllAfter, Sorted}
 use Rattle.engine_events.specs.Represents.{heldOf, Holds}
 use Rattle.engine_events.specs.Promises.{Finds}
 use Rattle.engine_committing.specs.Steps as S
@@ -27,7 +26,7 @@ none-before time [] e = refl
 none-before time (unrun x ∷ h) e = absurd (true≢false (sym e))
 none-before time (ran x b ∷ h) e = none-before time h e
 
-lowest-before : (time : ℕ) (h : List Held) (s : ℕ) → Sorted h → (l : Lowest h s) → ltb (l .time) time ≡ unrunBefore time h
+lowest-before : (time : ℕ) (h : List Held) (s : ℕ) → InOrder h → (l : Lowest h s) → ltb (l .time) time ≡ unrunBefore time h
 lowest-before time h s o l = go (unrunBefore time h) refl (isEarly (l .time) time)
   where
     go : (v : Bool) → unrunBefore time h ≡ v → Early (l .time) time → ltb (l .time) time ≡ v
@@ -44,12 +43,12 @@ all-above : (e : Event) (cells : List Cell) → AllAfter e cells → Above e (he
 all-above e [] a = tt
 all-above e (y ∷ ys) a = (asym (record { is = a .0 }), all-above e ys (a .1))
 
-cells-sorted : (cells : List Cell) → InOrder cells → Sorted (heldOf cells)
+cells-sorted : (cells : List Cell) → Sorted cells → InOrder (heldOf cells)
 cells-sorted [] o = tt
 cells-sorted (y ∷ ys) o = (all-above (event (y .held)) ys (o .0), cells-sorted ys (o .1))
 
-held-sorted : {p : Plan} {n c now : ℕ} {xs : List ℕ} {q : Queue} {cells : List Cell} → Holds p n c now xs q cells → Sorted (q .held)
-held-sorted {cells = cells} H = subst Sorted (H .stores .held) (cells-sorted cells (H .stores .stands .sorted))
+held-sorted : {p : Plan} {n c now : ℕ} {xs : List ℕ} {q : Queue} {cells : List Cell} → Holds p n c now xs q cells → InOrder (q .held)
+held-sorted {cells = cells} H = subst InOrder (H .stores .held) (cells-sorted cells (H .stores .stands .sorted))
 
 -- ---- what the calendar says
 

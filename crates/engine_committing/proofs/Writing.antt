@@ -9,12 +9,11 @@ use lib.Seq.{drop-append-add, drop-drop}
 use Rattle.line.specs.declared.Event.{Event}
 use Rattle.line.specs.Station.{Plan, InRange}
 use Rattle.rules.specs.Held.{Held, unrun, ran, event, Queue}
-use Rattle.rules.specs.Entry.{entry, entries}
-use Rattle.rules.proofs.Calls.Entries.{entries-length, entries-append, entries-first}
+use Rattle.entry.specs.Entry.{entry, entries, eventAt, putEvent}
+use Rattle.entry.proofs.Entries.{entries-length, entries-append, entries-first}
 use Rattle.rings.specs.Table.{nextOf}
 use Rattle.engine_rows.specs.Layout.{slotRow}
-use Rattle.engine_records.specs.Records.{eventAt, putEvent, entryOf}
-use Rattle.engine_records.proofs.Entry.{event-parts}
+use Rattle.entry.proofs.EntryLaws.{event-parts}
 use Rattle.engine_index.specs.Layout.{slotOf, logAt, IsSlot}
 use Rattle.engine_index.specs.Represents.{Cell, cell, hasRun, Stands}
 use Rattle.engine_index.proofs.Rings.RingEnds.{first-logged}
@@ -26,10 +25,6 @@ use Rattle.engine_promises.proofs.FoundSlots.{cell-slot}
 use Rattle.engine_committing.proofs.LogFront.{run-at, length-events}
 
 -- ---- the output
-
-same-entry : (x : Event) → entryOf x ≡ entry x
-unfolding entryOf entry
-same-entry x = refl
 
 events-append : (A B : List Cell) → eventsOf (A ++ B) ≡ eventsOf A ++ eventsOf B
 events-append [] B = refl
@@ -48,7 +43,7 @@ write-next : (log : List Event) (x : Event) (output : List ℕ) → 24 * length 
     → putEvent (24 * length log) x (written log output) ≡ written (log ++ x ∷ []) output
 write-next log x output h =
     event-parts at x (written log output) (omega (arith, length-append (entries log) (drop at output), entries-length log, length-drop at output))
-    ∙ rw (entries-first log (drop at output), same-entry x, beyond) (sym after)
+    ∙ rw (entries-first log (drop at output), beyond) (sym after)
   where
     at : ℕ
     at = 24 * length log

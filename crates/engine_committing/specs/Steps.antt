@@ -7,7 +7,7 @@ use lib.ListN.{length, drop}
 use Rattle.line.specs.declared.Event.{Event}
 use Rattle.line.specs.Station.{Plan, InRange}
 use Rattle.rules.specs.Held.{event, Queue, unrunBefore, logged}
-use Rattle.rules.specs.Entry.{entries}
+use Rattle.entry.specs.Entry.{entries}
 use Rattle.engine_index.specs.Represents.{Cell, hasRun}
 use Rattle.engine_events.specs.Represents.{heldOf, Holds}
 

@@ -65,7 +65,7 @@ fn write_first(b: &mut [u8], n: u16, c: u16, count: u16, out: &mut [u8])
             return;
         }
         let e = engine_rows::event(b, n, i);
-        engine_records::write_event(out, 24 * k as u32, e);
+        entry::write(out, 24 * k as u32, e);
         engine_moves::release(b, n, c, x);
         k += 1;
     }

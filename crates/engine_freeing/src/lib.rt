@@ -7,7 +7,7 @@ ghost use mathlib.Core.Path.{_≡_};
 ghost use Prim.Native.Nat.{_≤_, _<_};
 ghost use Rattle.rings.specs.Table.{Frame};
 ghost use Rattle.engine_rows.specs.Layout.{slotRow};
-ghost use Rattle.engine_records.specs.Records.{eventAt};
+ghost use Rattle.entry.specs.Entry.{eventAt};
 ghost use Rattle.engine_index.specs.Layout.{indexBytes, slotOf};
 ghost use Rattle.engine_index.specs.SlotPromises.{Spares, Sets};
 ghost use Rattle.engine_index.specs.Opening.{emptied, filled, Clears};

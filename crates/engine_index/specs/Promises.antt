@@ -5,7 +5,7 @@ use Prim.Native.Nat.{ℕ, _+_, _<_}
 use Rattle.line.specs.declared.Event.{Event}
 use Rattle.line.specs.declared.State.{State}
 use Rattle.rules.specs.Held.{unrun, ran}
-use Rattle.engine_records.specs.Records.{EventFits, StateFits}
+use Rattle.line.specs.Widths.{EventFits, StateFits}
 use Rattle.engine_index.specs.Represents.{Cell, cell, AllBefore, AllAfter, Stands, NoneIn}
 
 -- an event takes the first free slot, between those before it and those after it

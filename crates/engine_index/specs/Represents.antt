@@ -12,7 +12,8 @@ use Rattle.line.specs.Event.{before}
 use Rattle.rules.specs.Held.{Held, unrun, ran, event}
 use Rattle.rings.specs.Ring.{Rings}
 use Rattle.engine_rows.specs.Layout.{slotRow}
-use Rattle.engine_records.specs.Records.{eventAt, stateAt}
+use Rattle.entry.specs.Entry.{eventAt}
+use Rattle.engine_records.specs.Records.{stateAt}
 use Rattle.engine_index.specs.Layout.{nodesOf, slotOf, linksAt, logAt, indexBytes}
 
 -- ---- the held events with their nodes

@@ -12,7 +12,7 @@ use Rattle.line.specs.Event.{before}
 use Rattle.rings.specs.Table.{prevOf, linkAfter, unlinked}
 use Rattle.rings.specs.Walk.{steps}
 use Rattle.engine_rows.specs.Layout.{slotRow}
-use Rattle.engine_records.specs.Records.{eventAt}
+use Rattle.entry.specs.Entry.{eventAt}
 use Rattle.engine_index.specs.Layout.{nodesOf, slotOf, linksAt, IsSlot}
 
 -- at the sentinel s, and at a node whose event comes before e

@@ -13,7 +13,8 @@ use Rattle.rules.specs.Held.{Held, unrun, ran, event, In, Queue, same, unmark, 
 use Rattle.rules.specs.Engine.{opened}
 use Rattle.rules.specs.Undo.{NoneLater}
 use Rattle.engine_rows.specs.Layout.{stationRow}
-use Rattle.engine_records.specs.Records.{EventFits, StateFits, stateAt, storedConfig}
+use Rattle.line.specs.Widths.{EventFits, StateFits}
+use Rattle.engine_records.specs.Records.{stateAt, storedConfig}
 use Rattle.engine_index.specs.Represents.{Cell, cell}
 use Rattle.engine_events.specs.Represents.{fitsIn, heldOf, Has, From, nonzero, Nodes, Holds}
 

@@ -13,7 +13,8 @@ use Rattle.line.specs.Station.{initial}
 use Rattle.plan_format.specs.Plan as plan
 use Rattle.plan_format.specs.Plan.{offsetOf, stationAt}
 use Rattle.engine_rows.specs.Layout.{stationRow, slotRow}
-use Rattle.engine_records.specs.Records.{stateAt, putState, storedConfig, putConfig, StateFits, ConfigFits}
+use Rattle.engine_records.specs.Records.{stateAt, putState, storedConfig, putConfig}
+use Rattle.line.specs.Widths.{StateFits, ConfigFits}
 use Rattle.engine_records.proofs.Cells.{length-write, read-written, read-beside}
 use Rattle.engine_rows.proofs.Rows.{configOf, stateOf, config-in, state-in, stations, row-other, station-room}
 use Rattle.engine_promises.specs.Represents.{lineOf}

@@ -13,7 +13,7 @@ use Rattle.line.specs.Event.{posted}
 use Rattle.line.specs.Station.{Plan}
 use Rattle.rules.specs.Held.{Held, unrun, ran, event, Queue, Found, heldPost}
 use Rattle.engine_rows.specs.Layout.{slotRow}
-use Rattle.engine_records.specs.Records.{eventAt}
+use Rattle.entry.specs.Entry.{eventAt}
 use Rattle.engine_index.specs.Layout.{slotOf}
 use Rattle.engine_index.specs.Represents.{Cell, cell, statusAt, HeldAt}
 use Rattle.engine_events.specs.Represents.{heldOf, Has, Holds}

@@ -11,7 +11,7 @@ use Rattle.words.specs.Le.{loadAt}
 use Rattle.line.specs.declared.Event.{Event}
 use Rattle.line.specs.Event.{posted}
 use Rattle.engine_rows.specs.Layout.{slotRow}
-use Rattle.engine_records.specs.Records.{eventAt}
+use Rattle.entry.specs.Entry.{eventAt}
 use Rattle.engine_posting.specs.Steps.{isPostAt}
 
 module _ (xs : List ℕ) (n i number : ℕ) {r : ℕ} (s : r ≡ loadAt 2 (slotRow n i + 56 + 2 * 2) xs) where

@@ -22,15 +22,15 @@ use Rattle.line.specs.Station.{Plan}
 use Rattle.rules.specs.Held.{unrun, Queue, undone}
 use Rattle.rules.specs.Undo.{Does, Add}
 use Rattle.rules.specs.Engine.{Engine, Post, Refused, Posted}
-use Rattle.rules.specs.Calls.{postOf, Answers, post}
+use Rattle.rules.specs.Calls.{postOf, Answers, post, afterPost}
 use Rattle.rules.specs.Demand.{posts, retracted, logs}
-use Rattle.rules.proofs.Undo.Functions.{add}
+use Rattle.rules.specs.Executable.{adding}
 use Rattle.rules.proofs.Undo.Agree as G
 use Rattle.rules.proofs.Undo.Agree.{does-agree}
 use Rattle.rules.proofs.Undo.Exist.{can-add}
 use Rattle.rules.proofs.Undo.Count.{undone-undos, does-falls}
 use Rattle.rules.proofs.Calls.Invariant.{post-new}
-use Rattle.engine_records.specs.Records.{EventFits}
+use Rattle.line.specs.Widths.{EventFits}
 use Rattle.engine_index.specs.Represents.{cell}
 use Rattle.engine_events.specs.Promises.{AfterHeader}
 use Rattle.engine_rollback.specs.BetweenSteps.{RollsTo}
@@ -93,7 +93,7 @@ module _ {p : Plan} {e : Engine} {xs : List ℕ} (R : Represents p e xs) (s t ki
   }
 
   left : Queue
-  left = add p (e .queue) x
+  left = adding p (e .queue) x
 
   does : Does p (Add x) (e .queue) left
   unfolding left
@@ -113,7 +113,7 @@ module _ {p : Plan} {e : Engine} {xs : List ℕ} (R : Represents p e xs) (s t ki
   held-few = omega (arith, held-length (R .cells), ap length (R .holds .stores .held))
 
   abbrev then : Engine
-  then = record { capacity = e .capacity; next = suc (e .next); now = e .now; queue = left }
+  then = afterPost e left
 
   answers : Answers p e (Post s t kind value) (Posted (e .next) j) then
   unfolding x

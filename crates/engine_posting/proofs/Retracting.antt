@@ -15,9 +15,8 @@ use Rattle.rules.specs.Engine.{Engine, Retract, Refused, Retracted}
 use Rattle.rules.specs.Checks.{checks}
 use Rattle.rules.specs.Calls.{with, Answers, refuse, retract}
 use Rattle.rules.specs.Demand.{posts, retracted, logs}
-use Rattle.rules.proofs.Undo.Functions.{remove}
-use Rattle.rules.proofs.Machine.Insert.{insert}
-use Rattle.rules.proofs.Undo.Cascade.{Ok}
+use Rattle.rules.specs.Executable.{removing}
+use Rattle.rules.specs.Replay.{insertSorted, Replayed}
 use Rattle.rules.proofs.Undo.Exist.{IsHeld, is-unrun, is-run, can-remove}
 use Rattle.rules.proofs.Undo.Agree.{does-agree}
 use Rattle.rules.proofs.Undo.Count.{undone-undos, does-falls}
@@ -61,7 +60,7 @@ module _ {p : Plan} {e : Engine} {xs : List ℕ} (R : Represents p e xs) (number
     the = the-post p (R .range) e (posts p 0 (made R)) (retracted (made R)) (logs (made R)) (invariant R) h held s number l
 
     abbrev left : Queue
-    left = remove p (e .queue) (event h)
+    left = removing p (e .queue) (event h)
 
     does : Does p (Remove (event h)) (e .queue) left
     does =
@@ -72,11 +71,11 @@ module _ {p : Plan} {e : Engine} {xs : List ℕ} (R : Represents p e xs) (number
     comes : RollsTo p (p .count) (e .capacity) (e .now) k (e .queue) ys left (R .cells)
     comes =
         let w = waits-inserted p (R .range) e (posts p 0 (made R)) (retracted (made R)) (logs (made R)) (invariant R) h held s in
-        let M : Mid p (p .count) (e .capacity) (e .now) xs (e .queue) (R .cells) (insert (event h) (w .0)) (invariant R .machine .states) =
+        let M : Mid p (p .count) (e .capacity) (e .now) xs (e .queue) (R .cells) (insertSorted (event h) (w .0)) (invariant R .machine .states) =
         record {
           range = R .range;
           holds = R .holds;
-          ok = subst (λ (ws : List Event). Ok p ws (invariant R .machine .states) (e .queue)) (w .1) (invariant R .ok);
+          ok = subst (λ (ws : List Event). Replayed p ws (invariant R .machine .states) (e .queue)) (w .1) (invariant R .ok);
           neat = neat R;
         } in
         D p (e .now) (e .queue) (R .cells) (w .0) (invariant R .machine .states) h M m

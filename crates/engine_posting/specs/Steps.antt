@@ -10,7 +10,7 @@ use Rattle.line.specs.Station.{Plan}
 use Rattle.rules.specs.Held.{Held, event, Queue, Found, heldPost}
 use Rattle.words.specs.Le.{loadAt}
 use Rattle.engine_rows.specs.Layout.{slotRow}
-use Rattle.engine_records.specs.Records.{eventAt}
+use Rattle.entry.specs.Entry.{eventAt}
 use Rattle.engine_index.specs.Represents.{Cell, cell}
 use Rattle.engine_events.specs.Represents.{Has, Holds}
 

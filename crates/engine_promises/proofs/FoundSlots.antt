@@ -6,7 +6,7 @@ use native.Mathlib.Omega.{arith}
 use lib.ListN.{length}
 use Rattle.line.specs.declared.Event.{Event}
 use Rattle.engine_rows.specs.Layout.{slotRow}
-use Rattle.engine_records.specs.Records.{eventAt}
+use Rattle.entry.specs.Entry.{eventAt}
 use Rattle.engine_index.specs.Layout.{slotOf, IsSlot, FindsSlot}
 use Rattle.engine_index.specs.Represents.{Cell, Stands}
 use Rattle.engine_events.specs.Represents.{Has}

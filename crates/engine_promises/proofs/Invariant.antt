@@ -8,7 +8,7 @@ use Rattle.rules.specs.Engine.{Engine, Call, Answer, opened}
 use Rattle.rules.specs.Calls.{Answers}
 use Rattle.rules.specs.Demand.{Made, Calls, end, next, posts, retracted, logs}
 use Rattle.rules.proofs.Calls.Invariant.{Inv, held-neat}
-use Rattle.rules.proofs.Replay.Neat.{Neat}
+use Rattle.rules.specs.Replay.{Neat}
 use Rattle.rules.proofs.Calls.Demand3.{after-calls}
 use Rattle.engine_rollback.specs.BetweenSteps.{Mid}
 use Rattle.engine_promises.specs.Represents.{Reached, Represents}

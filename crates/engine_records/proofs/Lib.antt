@@ -1,5 +1,3 @@
-pub mod Run
 pub mod RecordLaws
 pub mod Fits
-pub mod Entry
 pub mod Cells

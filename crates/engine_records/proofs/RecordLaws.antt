@@ -17,17 +17,12 @@ use Rattle.line.specs.declared.Matter.the-variants.{Read, Frame, Level}
 use Rattle.line.specs.Matter.{kindOf, valueOf}
 use Rattle.line.specs.Event.{before}
 use Rattle.line.proofs.Order.{lex-apart}
-use Rattle.engine_records.specs.Records.{matterOr, eventAt, putEvent, stateAt, putState, storedConfig, putConfig, EventFits, StateFits, ConfigFits}
-use Rattle.engine_records.proofs.Run.{Run, puts, size, Fit, Reads, length-puts, puts-beside, puts-back}
+use Rattle.entry.specs.Entry.{matterOr, eventAt, putEvent}
+use Rattle.engine_records.specs.Records.{stateAt, putState, storedConfig, putConfig}
+use Rattle.line.specs.Widths.{EventFits, StateFits, ConfigFits}
+use Rattle.words.proofs.Run.{Run, puts, size, Fit, Reads, length-puts, puts-beside, puts-back}
 
 -- ---- a record as a run of numbers
-
-abbrev pub eventRun : Event → Run
-eventRun x = (8, x .time) ∷ (4, x .number) ∷ (4, valueOf (x .matter)) ∷ (2, x .target) ∷ (2, x .source) ∷ (4, kindOf (x .matter)) ∷ []
-
-pub event-run : (at : ℕ) (x : Event) (xs : List ℕ) → putEvent at x xs ≡ puts at 0 (eventRun x) xs
-unfolding putEvent puts
-event-run at x xs = rw (add-zero at)
 
 abbrev stateRun : State → Run
 stateRun s = (4, s .draw) ∷ (4, s .level) ∷ (4, s .heard) ∷ (4, s .lost) ∷ (4, s .sent) ∷ []
@@ -46,9 +41,6 @@ config-run at c xs = refl
 
 -- ---- lengths
 
-pub length-event : (at : ℕ) (x : Event) (xs : List ℕ) → length (putEvent at x xs) ≡ length xs
-length-event at x xs = rw event-run (length-puts at 0 (eventRun x) xs)
-
 pub length-state : (at : ℕ) (s : State) (xs : List ℕ) → length (putState at s xs) ≡ length xs
 length-state at s xs = rw state-run (length-puts at 0 (stateRun s) xs)
 
@@ -56,10 +48,6 @@ pub length-config : (at : ℕ) (c : Config) (xs : List ℕ) → length (putConfi
 length-config at c xs = rw (config-run, length-puts at 4 (configRun c)) (length-store 2 at (c .parent) xs)
 
 -- ---- beside a record
-
-pub event-beside : (at : ℕ) (x : Event) (xs : List ℕ) (m j : ℕ) → Apart at 24 j m → loadAt m j (putEvent at x xs) ≡ loadAt m j xs
-unfolding size
-event-beside at x xs m j a = rw event-run (puts-beside at 0 (eventRun x) xs m j (rw add-zero a))
 
 pub state-beside : (at : ℕ) (s : State) (xs : List ℕ) (m j : ℕ) → Apart at 20 j m → loadAt m j (putState at s xs) ≡ loadAt m j xs
 unfolding size
@@ -73,24 +61,6 @@ config-beside at c xs m j (inr h) =
     rw config-run (puts-beside at 4 (configRun c) (storeAt 2 at (c .parent) xs) m j (inr (omega arith)) ∙ load-other m 2 at (c .parent) xs j (inr h))
 
 -- ---- read back
-
-matter-back : (m : Matter) → matterOr (kindOf m) (valueOf m) ≡ m
-unfolding matterOr
-matter-back Read = refl
-matter-back (Frame origin) = refl
-matter-back (Level mm) = refl
-
-kind-fits : (m : Matter) → kindOf m < 256 ^ 4
-kind-fits Read = omega arith
-kind-fits (Frame origin) = omega arith
-kind-fits (Level mm) = omega arith
-
-pub event-back : (at : ℕ) (x : Event) (xs : List ℕ) → at + 24 ≤ length xs → EventFits x → eventAt at (putEvent at x xs) ≡ x
-unfolding eventAt size Fit Reads
-event-back at x xs h f =
-    let fit : Fit (eventRun x) = (f .time, (f .number, (f .value, (f .target, (f .source, (kind-fits (x .matter), tt)))))) in
-    let r : Reads at 0 (eventRun x) (putEvent at x xs) = rw event-run (puts-back at 0 (eventRun x) xs (rw add-zero h) fit) in
-    rw (rw add-zero at (r .0), r .1 .0, r .1 .1 .0, r .1 .1 .1 .0, r .1 .1 .1 .1 .0, r .1 .1 .1 .1 .1 .0, matter-back (x .matter))
 
 pub state-back : (at : ℕ) (s : State) (xs : List ℕ) → at + 20 ≤ length xs → StateFits s → stateAt at (putState at s xs) ≡ s
 unfolding stateAt size Fit Reads
@@ -109,14 +79,3 @@ config-back at c xs h f =
     let r : Reads at 4 (configRun c) (putConfig at c xs) =
     rw config-run (puts-back at 4 (configRun c) ys (rw (length-store 2 at (c .parent) xs) (omega arith)) fit) in
     rw (p, r .0, r .1 .0, r .1 .1 .0, r .1 .1 .1 .0, r .1 .1 .1 .1 .0, r .1 .1 .1 .1 .1 .0)
-
--- ---- a field alone
-
-pub event-time : (at : ℕ) (xs : List ℕ) → loadAt 8 at xs ≡ eventAt at xs .time
-unfolding eventAt
-event-time at xs = refl
-
--- where the times differ they decide the event order
-pub told-by-time : (at : ℕ) (xs : List ℕ) (e : Event) {t : ℕ} → t ≡ loadAt 8 at xs → t ≢ e .time → ltb t (e .time) ≡ before (eventAt at xs) e
-unfolding before eventAt
-told-by-time at xs e p q = ap (λ t. ltb t (e .time)) p ∙ lex-apart _ (λ h. q (p ∙ h))

@@ -1,47 +1,9 @@
-// An event, a state and a station's numbers as bytes, at any byte of a lent buffer. An event's 24 bytes are those that a commit writes.
+// A state and a station's numbers as bytes, at any byte of a lent buffer.
 
 ghost use mathlib.Core.Path.{_≡_};
-ghost use Rattle.engine_records.specs.Records.{eventAt, putEvent, stateAt, putState, storedConfig, putConfig, matterOr};
+ghost use Rattle.engine_records.specs.Records.{stateAt, putState, storedConfig, putConfig};
 use line::Config;
-use line::Event;
-use line::Matter;
 use line::State;
-
-fn matter(kind: u32, value: u32) -> Matter
-    ensures { λ r. ⌜ r ≡ matterOr kind value ⌝ }
-{
-    match kind {
-        2 => Matter::Frame(value),
-        3 => Matter::Level(value),
-        _ => Matter::Read,
-    }
-}
-
-pub fn read_event(b: &[u8], at: u32) -> Event
-    ensures { λ r. ⌜ r ≡ eventAt at (now (b .entry)) ⌝ }
-{
-    let from = at as usize;
-    Event {
-        time: words::load64(b, from),
-        target: words::load16(b, from + 16),
-        source: words::load16(b, from + 18),
-        number: words::load32(b, from + 8),
-        matter: matter(words::load32(b, from + 20), words::load32(b, from + 12)),
-    }
-}
-
-pub fn write_event(b: &mut [u8], at: u32, e: Event)
-    ensures { λ _. ⌜ now (b .exit) ≡ putEvent at e (now (b .entry)) ⌝ }
-{
-    let from = at as usize;
-    let m = e.matter;
-    words::store64(b, from, e.time);
-    words::store32(b, from + 8, e.number);
-    words::store32(b, from + 12, line::value_of(m));
-    words::store16(b, from + 16, e.target);
-    words::store16(b, from + 18, e.source);
-    words::store32(b, from + 20, line::kind_of(m));
-}
 
 pub fn read_state(b: &[u8], at: u32) -> State
     ensures { λ r. ⌜ r ≡ stateAt at (now (b .entry)) ⌝ }

@@ -10,19 +10,18 @@ use Rattle.refusal.specs.Tests.{horizon}
 use Rattle.line.specs.declared.Event.{Event}
 use Rattle.line.specs.Event.{before}
 use Rattle.line.specs.Station.{Plan, States}
-use Rattle.line.proofs.Order.{Lt}
-use Rattle.line.proofs.All.{All}
+use Rattle.line.specs.Order.{Lt, All}
 use Rattle.rules.specs.Held.{unrun, event, Queue, same, place}
-use Rattle.rules.proofs.Undo.Functions.{runs, undoFrom, add}
-use Rattle.rules.proofs.Replay.Replay.{Clear}
-use Rattle.rules.proofs.Members.{all-in, in-all}
+use Rattle.rules.specs.Executable.{runs, undoFrom, adding}
+use Rattle.rules.specs.Replay.{Clear}
+use Rattle.line.proofs.Members.{all-in, in-all}
 use Rattle.rules.proofs.Replay.Place.{place-runs}
 use Rattle.rules.proofs.Undo.Fuel.{undo-none}
 use Rattle.rules.proofs.Replay.Neat.{in-run}
 use Rattle.rules.proofs.Undo.Agree.{clear-none, does-agree, does-each}
 use Rattle.rules.proofs.Undo.Exist.{can, CanUndoLater}
 use Rattle.rules.proofs.Calls.Room.{does-length}
-use Rattle.engine_records.specs.Records.{EventFits}
+use Rattle.line.specs.Widths.{EventFits}
 use Rattle.engine_index.specs.Represents.{Cell, cell}
 use Rattle.engine_events.specs.Represents.{From, heldOf}
 use Rattle.engine_moves.specs.Promises.{Becomes, New, HoldsEvent}
@@ -67,8 +66,8 @@ module _ {p : Plan} {n c now : ℕ} {xs : List ℕ} {q : Queue} {cells : List Ce
 
   pub added : {k r : ℕ} {ys zs : List ℕ} → length cells < c → EventFits e → e .target < n → now ≤ e .time → e .time ≤ horizon
       → RollsTo p n c now k q ys (undoFrom p q (e .target) e) cells → HoldsEvent n c ys e r zs
-      → RollsTo p n c now k q zs (add p q e) (cell r (unrun e) ∷ cells)
-  unfolding add
+      → RollsTo p n c now k q zs (adding p q e) (cell r (unrun e) ∷ cells)
+  unfolding adding
   added {k} {r} {ys} {zs} room fits inside early late C T = record {
     becomes = record { after = D .after; holds = D .holds; from = from-on (from-under (B .from)) (D .from) };
     undone = subst (λ j. k + j ≡ runs (q .held)) (sym (place-runs e (u .held))) (C .undone);

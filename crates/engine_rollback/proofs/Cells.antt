@@ -4,8 +4,8 @@ use mathlib.Core.List.{List, [], _∷_, List·Memᴰ·head, List·Memᴰ·tail}
 use Prim.Native.Nat.{ℕ, suc}
 use lib.ListN.{length}
 use Rattle.line.specs.declared.Event.{Event}
-use Rattle.line.proofs.Order.{Lt, Ge, irr, clash}
-use Rattle.line.proofs.All.{All}
+use Rattle.line.specs.Order.{Lt, Ge, All}
+use Rattle.line.proofs.Order.{irr, clash}
 use Rattle.rules.specs.Held.{Held, unrun, ran, event, In}
 use Rattle.rules.proofs.Undo.Exist.{IsHeld, is-unrun, is-run}
 use Rattle.engine_index.specs.Represents.{Cell, cell, AllAfter, Sorted}

@@ -9,9 +9,9 @@ use Rattle.words.specs.Le.{loadAt}
 use Rattle.line.specs.declared.Event.{Event}
 use Rattle.line.specs.Station.{Plan, States}
 use Rattle.rules.specs.Held.{Held, ran, event, Queue}
-use Rattle.rules.proofs.Machine.Insert.{insert}
+use Rattle.rules.specs.Replay.{insertSorted}
 use Rattle.engine_rows.specs.Layout.{slotRow}
-use Rattle.engine_records.specs.Records.{eventAt}
+use Rattle.entry.specs.Entry.{eventAt}
 use Rattle.engine_index.specs.Layout.{slotOf}
 use Rattle.engine_index.specs.Represents.{Cell, cell}
 use Rattle.engine_events.specs.Represents.{Has}
@@ -38,7 +38,7 @@ module _ (n c : ℕ) (xs : List ℕ) (s x : ℕ) where
   pub removes-lower : {e : Event} {k : ℕ} {ys zs : List ℕ} → e ≡ eventAt (slotRow n (slotOf n x)) xs → UndoesFrom n c xs (e .target) e k ys
       → DiscardsEvent n c ys x zs → RemovesBelow n c xs s x k zs
   removes-lower {e} {k} {ys} {zs} a U L p now q cells ws st h M m f o =
-      removed ws h M m f (subst (λ (g : Event). UndoesFrom n c xs (g .target) g k ys) (a ∙ at-node x h M m) U p now q cells (insert (event h) ws) st M) L
+      removed ws h M m f (subst (λ (g : Event). UndoesFrom n c xs (g .target) g k ys) (a ∙ at-node x h M m) U p now q cells (insertSorted (event h) ws) st M) L
 
   pub removes-here : {e : Event} {zs : List ℕ} → e ≡ eventAt (slotRow n (slotOf n x)) xs → s ≤ e .target → DiscardsEvent n c xs x zs → RemovesBelow n c xs s x 0 zs
   removes-here {e} {zs} a l L p now q cells ws st h M m f (inl k) =

@@ -8,14 +8,15 @@ use native.Mathlib.Omega.{arith}
 use Rattle.line.specs.declared.Event.{Event}
 use Rattle.line.specs.declared.State.{State}
 use Rattle.line.specs.Event.{before}
-use Rattle.line.proofs.Order.{Lt, asym, irr}
+use Rattle.line.specs.Order.{Lt}
+use Rattle.line.proofs.Order.{asym, irr}
 use Rattle.rules.specs.Held.{Held, unrun, ran, event, In}
 use Rattle.rules.specs.Undo.{NoneLater}
-use Rattle.rules.proofs.Replay.Replay.{NoRun}
+use Rattle.rules.specs.Replay.{NoRun}
 use Rattle.rules.proofs.Replay.Neat.{in-run}
 use Rattle.rings.specs.Table.{prevOf}
 use Rattle.engine_rows.specs.Layout.{slotRow}
-use Rattle.engine_records.specs.Records.{eventAt}
+use Rattle.entry.specs.Entry.{eventAt}
 use Rattle.engine_index.specs.Layout.{linksAt, slotOf}
 use Rattle.engine_index.specs.Represents.{Cell, cell, ringOf, HeldAt, Stored, AllAfter, Sorted, Stands, NoneIn}
 use Rattle.engine_index.proofs.Rings.RingEnds.{last-in, prev-none}

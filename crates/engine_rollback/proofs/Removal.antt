@@ -6,10 +6,9 @@ use native.Mathlib.Omega.{arith}
 use Rattle.line.specs.declared.Event.{Event}
 use Rattle.line.specs.Station.{Plan, States}
 use Rattle.rules.specs.Held.{Held, unrun, event, In, Queue, delete}
-use Rattle.rules.proofs.Undo.Functions.{runs, undoFrom, remove}
-use Rattle.rules.proofs.Machine.Insert.{insert}
-use Rattle.rules.proofs.Members.{all-in}
-use Rattle.rules.proofs.Replay.Replay.{Fresh, Clear}
+use Rattle.rules.specs.Executable.{runs, undoFrom, removing}
+use Rattle.rules.specs.Replay.{insertSorted, Fresh, Clear}
+use Rattle.line.proofs.Members.{all-in}
 use Rattle.rules.proofs.Undo.Cascade.{Undone, undo-from}
 use Rattle.rules.proofs.Undo.Fuel.{undo-none}
 use Rattle.rules.proofs.Undo.Agree.{clear-none}
@@ -22,7 +21,7 @@ use Rattle.engine_rollback.proofs.Cells.{has-held, from-same, from-on, 
 use Rattle.engine_rollback.proofs.TakenOut.{is-held, is-waiting, fresh-unsent}
 
 module _ {p : Plan} {n c now : ℕ} {xs : List ℕ} {q : Queue} {cells : List Cell} (ws : List Event) {st : States} {x : ℕ} (h : Held)
-    (M : Mid p n c now xs q cells (insert (event h) ws) st) (m : Has (cell x h) cells) where
+    (M : Mid p n c now xs q cells (insertSorted (event h) ws) st) (m : Has (cell x h) cells) where
   -- its target is a station
   pub target-inside : event h .target < n
   target-inside =
@@ -31,8 +30,8 @@ module _ {p : Plan} {n c now : ℕ} {xs : List ℕ} {q : Queue} {cells : List Ce
 
   -- what has been undone is followed by discarding node x
   pub removed : {k : ℕ} {ys zs : List ℕ} → Fresh p (event h) (q .held) → RollsTo p n c now k q ys (undoFrom p q (event h .target) (event h)) cells
-      → DiscardsEvent n c ys x zs → RollsTo p n c now k q zs (remove p q (event h)) cells
-  unfolding remove
+      → DiscardsEvent n c ys x zs → RollsTo p n c now k q zs (removing p q (event h)) cells
+  unfolding removing
   removed {k} {ys} {zs} f C L = record {
     becomes = record { after = D .after; holds = D .holds; from = from-on (B .from) (D .from) };
     undone = subst (λ j. k + j ≡ runs (q .held)) (sym (delete-same-runs e (r .held) (U .clear))) (C .undone);
@@ -44,8 +43,8 @@ module _ {p : Plan} {n c now : ℕ} {xs : List ℕ} {q : Queue} {cells : List Ce
       r : Queue
       r = undoFrom p q (e .target) e
 
-      U : Undone p (insert e ws) st (e .target) e q r
-      U = undo-from p (M .range) q (e .target) e (insert e ws) st (M .ok)
+      U : Undone p (insertSorted e ws) st (e .target) e q r
+      U = undo-from p (M .range) q (e .target) e (insertSorted e ws) st (M .ok)
 
       B : Becomes p n c now ys r cells
       B = C .becomes
@@ -61,7 +60,7 @@ module _ {p : Plan} {n c now : ℕ} {xs : List ℕ} {q : Queue} {cells : List Ce
 
   -- where none of them is run nothing is undone
   pub removed-clear : {zs : List ℕ} → Fresh p (event h) (q .held) → Clear (event h .target) (event h) (q .held)
-      → DiscardsEvent n c xs x zs → RollsTo p n c now 0 q zs (remove p q (event h)) cells
+      → DiscardsEvent n c xs x zs → RollsTo p n c now 0 q zs (removing p q (event h)) cells
   removed-clear {zs} f k L = removed f C L
     where
       same : undoFrom p q (event h .target) (event h) ≡ q

@@ -11,7 +11,8 @@ use Rattle.line.specs.declared.Matter.{Matter}
 use Rattle.line.specs.declared.Matter.the-variants.{Read, Frame, Level}
 use Rattle.line.specs.declared.State.{State}
 use Rattle.line.specs.Station.{Plan, InRange, Outcome, send, silent, period, runRead, drawnState, lose, hear, pass, runFrame, runLevel, runMatter, runAt, runEvent}
-use Rattle.line.proofs.All.{All, all-snoc}
+use Rattle.line.specs.Order.{All}
+use Rattle.line.proofs.All.{all-snoc}
 use Rattle.line.proofs.Fits.{fits}
 use Rattle.line.proofs.Sends.{sending, made}
 

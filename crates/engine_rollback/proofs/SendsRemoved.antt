@@ -8,12 +8,12 @@ use native.Mathlib.Omega.{arith}
 use lib.Dec.{eqb, eqb→eq}
 use Rattle.line.specs.declared.Event.{Event}
 use Rattle.line.specs.Station.{Plan, States}
-use Rattle.line.proofs.Order.{Lt, Tri, below, level, above, tri, tr}
-use Rattle.line.proofs.All.{All, all-map}
+use Rattle.line.specs.Order.{Lt, All}
+use Rattle.line.proofs.Order.{Tri, below, level, above, tri, tr}
+use Rattle.line.proofs.All.{all-map}
 use Rattle.rules.specs.Held.{Held, unrun, event, In, Queue}
-use Rattle.rules.proofs.Undo.Functions.{runs, remove, removeAll}
-use Rattle.rules.proofs.Machine.Insert.{insertAll}
-use Rattle.rules.proofs.Replay.Replay.{Fresh, Clear}
+use Rattle.rules.specs.Executable.{runs, removing, removeAll}
+use Rattle.rules.specs.Replay.{insertAllSorted, Fresh, Clear}
 use Rattle.rules.proofs.Undo.Cascade.{After, Below, remove-after}
 use Rattle.rules.proofs.Replay.Neat.{in-run, run-in, unrun-clear}
 use Rattle.rules.proofs.Undo.Exist.{IsHeld}
@@ -33,7 +33,7 @@ pub record Child (e y : Event) : Type 0 where
 -- the bytes hold q, with e unrun, and its sends es, at the nodes ks, are due to be removed
 pub record Due (p : Plan) (n c now : ℕ) (xs : List ℕ) (q : Queue) (cells : List Cell) (ks : List ℕ) (es ws : List Event) (st : States) (e : Event)
     : Type 0 where
-  pub mid : Mid p n c now xs q cells (insertAll es ws) st
+  pub mid : Mid p n c now xs q cells (insertAllSorted es ws) st
   pub fresh : All (λ y. Fresh p y (q .held)) es
   pub cause : In (unrun e) (q .held)
   pub sent : All (Child e) es
@@ -58,15 +58,15 @@ lower {q = q} e y M m C = go (tri (y .target) (e .target))
 pub next-due : {p : Plan} {n c now : ℕ} {xs : List ℕ} {q : Queue} {cells : List Cell} {ks : List ℕ} {es ws : List Event} {st : States} {e : Event}
     {k : ℕ} (h : Held) {r : ℕ} {ys : List ℕ}
     → Due p n c now xs q cells (k ∷ ks) (event h ∷ es) ws st e → Nodes cells ks es
-    → (C : RollsTo p n c now r q ys (remove p q (event h)) cells)
-    → Due p n c now ys (remove p q (event h)) (C .becomes .after) ks es ws st e
-unfolding insertAll
+    → (C : RollsTo p n c now r q ys (removing p q (event h)) cells)
+    → Due p n c now ys (removing p q (event h)) (C .becomes .after) ks es ws st e
+unfolding insertAllSorted
 next-due {p} {n} {c} {now} {xs} {q} {cells} {ks} {es} {ws} {st} {e} {k} h {r} {ys} D N C = record {
   mid = record {
     range = D .mid .range;
     holds = C .becomes .holds;
     ok = A .ok;
-    neat = remove-neat (event h) (insertAll es ws) (D .mid .range) (D .mid .ok) (D .mid .neat);
+    neat = remove-neat (event h) (insertAllSorted es ws) (D .mid .range) (D .mid .ok) (D .mid .neat);
   };
   fresh = all-map (λ z f. A .fresh z f) es (D .fresh .1);
   cause = A .stays (unrun e) (D .sent .0 .later) (D .cause);
@@ -74,8 +74,8 @@ next-due {p} {n} {c} {now} {xs} {q} {cells} {ks} {es} {ws} {st} {e} {k} h {r} {y
   nodes = nodes-stay (D .mid .holds .stores .stands .sorted) (C .becomes .from) held N;
 }
   where
-    A : After p (insertAll es ws) st (Below (event h)) q (remove p q (event h))
-    A = remove-after p (D .mid .range) (insertAll es ws) st (event h) q (D .fresh .0) (D .mid .ok)
+    A : After p (insertAllSorted es ws) st (Below (event h)) q (removing p q (event h))
+    A = remove-after p (D .mid .range) (insertAllSorted es ws) st (event h) q (D .fresh .0) (D .mid .ok)
 
     held : All (λ y. IsHeld y (heldOf (C .becomes .after))) es
     held = subst (λ l. All (λ y. IsHeld y l) es) (sym (C .becomes .holds .stores .held)) (are-held es ws (A .ok))
@@ -91,7 +91,7 @@ pub record Partly (p : Plan) (n c now r : ℕ) (ys : List ℕ) (q : Queue) (cell
   pub from : From cells after
   pub undone : r + runs (queue .held) ≡ runs (q .held)
 
-remove-first : (p : Plan) (y : Event) (ys : List Event) (q : Queue) → removeAll p (y ∷ ys) q ≡ removeAll p ys (remove p q y)
+remove-first : (p : Plan) (y : Event) (ys : List Event) (q : Queue) → removeAll p (y ∷ ys) q ≡ removeAll p ys (removing p q y)
 unfolding removeAll
 remove-first p y ys q = refl
 
@@ -99,14 +99,14 @@ pub partly : {p : Plan} {n c now : ℕ} {xs : List ℕ} {q : Queue} {cells : Lis
     {e : Event} {r : ℕ} {ys : List ℕ}
     → Due p n c now xs q cells (nonzero k ++ ks) es ws st e → (k ≡ 0 → (r ≡ 0) × (ys ≡ xs)) → RemovesBelow n c xs (e .target) k r ys
     → Partly p n c now r ys q cells ks es ws st e
-unfolding insertAll
+unfolding insertAllSorted
 partly {p} {n} {c} {now} {xs} {q} {cells} k {ks} {es} {ws} {st} {e} {r} {ys} D Z R = go (eqb k 0) refl D
   where
     one : (es : List Event) → Due p n c now xs q cells (k ∷ ks) es ws st e → Nodes cells (k ∷ ks) es → Partly p n c now r ys q cells ks es ws st e
     one es d (more {h = h} {es = rest} m N) =
-        let C = R p now q cells (insertAll rest ws) st h (d .mid) m (d .fresh .0) (lower e (event h) (d .mid) (d .cause) (d .sent .0)) in
+        let C = R p now q cells (insertAllSorted rest ws) st h (d .mid) m (d .fresh .0) (lower e (event h) (d .mid) (d .cause) (d .sent .0)) in
         record {
-          queue = remove p q (event h);
+          queue = removing p q (event h);
           after = C .becomes .after;
           rest = rest;
           due = next-due h d N C;

@@ -7,12 +7,11 @@ use Rattle.words.specs.Le.{loadAt}
 use Rattle.line.specs.declared.Event.{Event}
 use Rattle.line.specs.declared.State.{State}
 use Rattle.line.specs.Station.{Plan, States, update, runEvent}
-use Rattle.line.proofs.Order.{Ge}
-use Rattle.line.proofs.All.{All}
+use Rattle.line.specs.Order.{Ge, All}
 use Rattle.rules.specs.Held.{ran, event, In, Queue, unmark}
 use Rattle.rules.specs.Undo.{NoneLater}
-use Rattle.rules.proofs.Undo.Functions.{runs, removeAll, undoEvent}
-use Rattle.rules.proofs.Members.{all-in}
+use Rattle.rules.specs.Executable.{runs, removeAll, undoEvent}
+use Rattle.line.proofs.Members.{all-in}
 use Rattle.rules.proofs.Replay.Replay.{sends-later}
 use Rattle.rules.proofs.Replay.Unmark.{Latest, found-runs}
 use Rattle.rules.proofs.Undo.RunFirst.{first-in}

@@ -9,17 +9,18 @@ use Rattle.line.specs.declared.Event.{Event}
 use Rattle.line.specs.declared.State.{State}
 use Rattle.line.specs.Event.{before}
 use Rattle.line.specs.Station.{Plan, States}
-use Rattle.line.proofs.Order.{Lt, Ge, ge-lt}
+use Rattle.line.specs.Order.{Lt, Ge}
+use Rattle.line.proofs.Order.{ge-lt}
 use Rattle.rules.specs.Held.{ran, In, Queue, unmark}
 use Rattle.rules.specs.Undo.{NoneLater}
-use Rattle.rules.proofs.Undo.Functions.{runs, undoFrom, undoEvent}
-use Rattle.rules.proofs.Replay.Replay.{Clear}
+use Rattle.rules.specs.Executable.{runs, undoFrom, undoEvent}
+use Rattle.rules.specs.Replay.{Clear}
 use Rattle.rules.proofs.Undo.Fuel.{undo-none, undo-some}
 use Rattle.rules.proofs.Replay.Neat.{in-run, run-in, is-latest}
 use Rattle.rules.proofs.Undo.Agree.{clear-none, latest-found}
 use Rattle.rings.specs.Table.{prevOf}
 use Rattle.engine_rows.specs.Layout.{slotRow}
-use Rattle.engine_records.specs.Records.{eventAt}
+use Rattle.entry.specs.Entry.{eventAt}
 use Rattle.engine_index.specs.Layout.{linksAt, slotOf}
 use Rattle.engine_index.specs.Represents.{Cell, cell}
 use Rattle.engine_events.specs.Represents.{Has, From, heldOf}

@@ -1,13 +1,12 @@
--- The bytes between two steps of a call, with what the rules keep (rules/proofs/Undo/Cascade and Functions, rules/proofs/Replay/Neat).
+-- The bytes between two steps of a call, with what a queue keeps there (rules/specs/Replay).
 use mathlib.Core.Path.{_≡_}
 use mathlib.Core.List.{List}
 use Prim.Native.Nat.{ℕ, _+_}
 use Rattle.line.specs.declared.Event.{Event}
 use Rattle.line.specs.Station.{Plan, InRange, States}
 use Rattle.rules.specs.Held.{Queue}
-use Rattle.rules.proofs.Undo.Functions.{runs}
-use Rattle.rules.proofs.Undo.Cascade.{Ok}
-use Rattle.rules.proofs.Replay.Neat.{Neat}
+use Rattle.rules.specs.Executable.{runs}
+use Rattle.rules.specs.Replay.{Replayed, Neat}
 use Rattle.engine_index.specs.Represents.{Cell}
 use Rattle.engine_events.specs.Represents.{Holds}
 use Rattle.engine_moves.specs.Promises.{Becomes}
@@ -16,7 +15,7 @@ use Rattle.engine_moves.specs.Promises.{Becomes}
 pub record Mid (p : Plan) (n c now : ℕ) (xs : List ℕ) (q : Queue) (cells : List Cell) (ws : List Event) (st : States) : Type 0 where
   pub range : InRange p
   pub holds : Holds p n c now xs q cells
-  pub ok : Ok p ws st q
+  pub ok : Replayed p ws st q
   pub neat : Neat p (q .held)
 
 -- the bytes come to hold r, in cells that were among these, and k events are undone on the way

@@ -1,4 +1,4 @@
--- What undoing, removing and adding do to what the bytes hold: what the rules say, as functions (rules/proofs/Undo/Functions).
+-- What undoing, removing and adding do to what the bytes hold: what the rules say, as functions (rules/specs/Executable).
 use mathlib.Core.Logic.{_⊎_}
 use mathlib.Core.List.{List, _∷_}
 use Prim.Native.Nat.{ℕ, _≤_, _<_}
@@ -9,10 +9,9 @@ use Rattle.line.specs.declared.State.{State}
 use Rattle.line.specs.Station.{Plan, States}
 use Rattle.rules.specs.Held.{Held, unrun, ran, event, Queue, unmark}
 use Rattle.rules.specs.Undo.{NoneLater}
-use Rattle.rules.proofs.Undo.Functions.{undoFrom, undoEvent, remove, add}
-use Rattle.rules.proofs.Machine.Insert.{insert}
-use Rattle.rules.proofs.Replay.Replay.{Fresh, Clear}
-use Rattle.engine_records.specs.Records.{EventFits}
+use Rattle.rules.specs.Executable.{undoFrom, undoEvent, removing, adding}
+use Rattle.rules.specs.Replay.{insertSorted, Fresh, Clear}
+use Rattle.line.specs.Widths.{EventFits}
 use Rattle.engine_index.specs.Represents.{Cell, cell}
 use Rattle.engine_events.specs.Represents.{Has}
 use Rattle.engine_moves.specs.Promises.{New}
@@ -34,18 +33,18 @@ UndoesFrom n c xs s e r ys =
 -- has no run event from it on
 abbrev pub RemovesBelow : ℕ → ℕ → List ℕ → ℕ → ℕ → ℕ → List ℕ → Type 0
 RemovesBelow n c xs s x r ys =
-    (p : Plan) (now : ℕ) (q : Queue) (cells : List Cell) (ws : List Event) (st : States) (h : Held) → Mid p n c now xs q cells (insert (event h) ws) st
+    (p : Plan) (now : ℕ) (q : Queue) (cells : List Cell) (ws : List Event) (st : States) (h : Held) → Mid p n c now xs q cells (insertSorted (event h) ws) st
     → Has (cell x h) cells → Fresh p (event h) (q .held) → (event h .target < s) ⊎ Clear (event h .target) (event h) (q .held)
-    → RollsTo p n c now r q ys (remove p q (event h)) cells
+    → RollsTo p n c now r q ys (removing p q (event h)) cells
 
 abbrev pub Removes : ℕ → ℕ → List ℕ → ℕ → ℕ → List ℕ → Type 0
 Removes n c xs x r ys =
-    (p : Plan) (now : ℕ) (q : Queue) (cells : List Cell) (ws : List Event) (st : States) (h : Held) → Mid p n c now xs q cells (insert (event h) ws) st
-    → Has (cell x h) cells → Fresh p (event h) (q .held) → RollsTo p n c now r q ys (remove p q (event h)) cells
+    (p : Plan) (now : ℕ) (q : Queue) (cells : List Cell) (ws : List Event) (st : States) (h : Held) → Mid p n c now xs q cells (insertSorted (event h) ws) st
+    → Has (cell x h) cells → Fresh p (event h) (q .held) → RollsTo p n c now r q ys (removing p q (event h)) cells
 
 -- "To add an event, first undo every later run event of its target, latest first."
 abbrev pub Adds : ℕ → ℕ → List ℕ → Event → ℕ → ℕ → List ℕ → Type 0
 Adds n c xs e node undone ys =
     (p : Plan) (now : ℕ) (q : Queue) (cells : List Cell) (ws : List Event) (st : States) → Mid p n c now xs q cells ws st → length cells < c
     → EventFits e → e .target < n → now ≤ e .time → e .time ≤ horizon → New e (q .held)
-    → RollsTo p n c now undone q ys (add p q e) (cell node (unrun e) ∷ cells)
+    → RollsTo p n c now undone q ys (adding p q e) (cell node (unrun e) ∷ cells)

@@ -9,7 +9,8 @@ ghost use mathlib.Core.Path.{_≡_};
 ghost use Prim.Native.Nat.{_+_, _*_, _≤_, _<_};
 ghost use Rattle.line.specs.Event.{before as isBefore};
 ghost use Rattle.words.specs.Le.{loadAt, storeAt};
-ghost use Rattle.engine_records.specs.Records.{eventAt, putEvent, stateAt, putState, storedConfig, putConfig};
+ghost use Rattle.entry.specs.Entry.{eventAt, putEvent};
+ghost use Rattle.engine_records.specs.Records.{stateAt, putState, storedConfig, putConfig};
 ghost use Rattle.engine_rows.specs.Layout.{stationRow, slotRow};
 use line::Config;
 use line::Event;
@@ -84,13 +85,13 @@ pub fn set_state(b: &mut [u8], n: u16, s: u16, v: State)
 pub fn event(b: &[u8], n: u16, i: u16) -> Event
     ensures { λ r. ⌜ r ≡ eventAt (slotRow n i) (now (b .entry)) ⌝ }
 {
-    engine_records::read_event(b, slot_row(n, i))
+    entry::read(b, slot_row(n, i))
 }
 
 pub fn set_event(b: &mut [u8], n: u16, i: u16, e: Event)
     ensures { λ _. ⌜ now (b .exit) ≡ putEvent (slotRow n i) e (now (b .entry)) ⌝ }
 {
-    engine_records::write_event(b, slot_row(n, i), e);
+    entry::write(b, slot_row(n, i), e);
 }
 
 // Does the event in a slot come before e? Mostly its time tells.

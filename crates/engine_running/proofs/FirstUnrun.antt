@@ -10,7 +10,7 @@ use Rattle.rules.specs.Held.{unrun, event, Queue, leastUnrun}
 use Rattle.rules.specs.Held.Found.{none as nothing, some as least-is}
 use Rattle.rings.specs.Table.{nextOf}
 use Rattle.engine_rows.specs.Layout.{slotRow}
-use Rattle.engine_records.specs.Records.{eventAt}
+use Rattle.entry.specs.Entry.{eventAt}
 use Rattle.engine_index.specs.Layout.{linksAt, slotOf}
 use Rattle.engine_index.specs.Represents.{Cell, cell, NoneIn}
 use Rattle.engine_index.proofs.Rings.RingEnds.{next-none, first-unrun}

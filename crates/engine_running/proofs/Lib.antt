@@ -1,6 +1,5 @@
 pub mod FirstUnrun
 pub mod Outcomes
-pub mod SendFits
 pub mod Running
 pub mod RunCalls
 pub mod SentNodes

@@ -16,8 +16,8 @@ use Rattle.line.specs.declared.Ran.the-variants.{Done, Over}
 use Rattle.line.specs.declared.State.{State}
 use Rattle.line.specs.Answer.{countsPass, counted, sendsOf, said}
 use Rattle.line.specs.Station.{Plan, Outcome, update, runAt, runEvent}
-use Rattle.line.proofs.Order.{Lt, asym}
-use Rattle.line.proofs.All.{All}
+use Rattle.line.specs.Order.{Lt, All}
+use Rattle.line.proofs.Order.{asym}
 use Rattle.line.proofs.Sends.{Sent, Good}
 use Rattle.rules.specs.Held.{unrun, Queue, leastUnrun, mark, undone}
 use Rattle.rules.specs.Held.Found.{none as nothing}
@@ -25,8 +25,8 @@ use Rattle.rules.specs.Undo.{NoneLater, Does, AddEach}
 use Rattle.rules.specs.Engine.{Engine, RunStation, Refused, Ran as Said}
 use Rattle.rules.specs.Calls.{with, running, Answers, run}
 use Rattle.rules.specs.Demand.{posts, retracted, logs}
-use Rattle.rules.proofs.Undo.Functions.{runs, addAll, runLeast}
-use Rattle.rules.proofs.Members.{all-in, in-all}
+use Rattle.rules.specs.Executable.{runs, addAll, runLeast}
+use Rattle.line.proofs.Members.{all-in, in-all}
 use Rattle.rules.proofs.Replay.Replay.{fresh-above, sends-later}
 use Rattle.rules.proofs.Replay.Mark.{First}
 use Rattle.rules.proofs.Undo.RunFirst.{first-in}
@@ -40,8 +40,11 @@ use Rattle.rules.proofs.Calls.Step.{run-inside, run-good, can-run, run-queue}
 use Rattle.rules.proofs.Calls.Answered.{first-of}
 use Rattle.rings.specs.Table.{nextOf}
 use Rattle.engine_rows.specs.Layout.{stationRow, slotRow}
-use Rattle.engine_records.specs.Records.{EventFits, StateFits, eventAt, stateAt, storedConfig}
-use Rattle.engine_records.proofs.Fits.{event-fits, state-fits}
+use Rattle.line.specs.Widths.{EventFits, StateFits}
+use Rattle.entry.specs.Entry.{eventAt}
+use Rattle.engine_records.specs.Records.{stateAt, storedConfig}
+use Rattle.entry.proofs.EntryLaws.{event-fits}
+use Rattle.engine_records.proofs.Fits.{state-fits}
 use Rattle.engine_index.specs.Layout.{linksAt, slotOf, IsSlot, FindsSlot}
 use Rattle.engine_index.specs.Represents.{cell}
 use Rattle.engine_events.specs.Represents.{nonzero, Nodes, none}
@@ -57,7 +60,7 @@ use Rattle.engine_promises.proofs.Header.{header-kept}
 use Rattle.engine_promises.proofs.PostRunChecks.{run-14, run-16, run-17, run-accepted}
 use Rattle.engine_promises.proofs.FoundSlots.{cell-slot, slot-event}
 use Rattle.engine_running.proofs.FirstUnrun.{Waits, waiting-found}
-use Rattle.engine_running.proofs.SendFits.{sends-fit, after-fits}
+use Rattle.line.proofs.SendFits.{sends-fit, after-fits}
 use Rattle.engine_running.proofs.Outcomes.{over-passes, within-is, outcomeOf, sends-few}
 use Rattle.engine_running.proofs.SendsAdded.{Ready, Stage, send-more}
 use Rattle.engine_promises.proofs.Refused.{refused-so}

@@ -13,23 +13,21 @@ use Rattle.line.specs.declared.Sending.the-variants.{Nothing, Sends}
 use Rattle.line.specs.Answer.{sendsOf}
 use Rattle.line.specs.Event.{before}
 use Rattle.line.specs.Station.{Plan, States}
-use Rattle.line.proofs.Order.{Lt}
-use Rattle.line.proofs.All.{All, all-map, all-snoc, Distinct}
+use Rattle.line.specs.Order.{Lt, All}
+use Rattle.line.proofs.All.{all-map, all-snoc, Distinct}
 use Rattle.rules.specs.Held.{Held, unrun, ran, event, In, Queue}
 use Rattle.rules.specs.Undo.{Does, Add}
-use Rattle.rules.proofs.Undo.Functions.{runs, add, addAll}
-use Rattle.rules.proofs.Machine.Insert.{insert}
-use Rattle.rules.proofs.Members.{all-in, in-all}
-use Rattle.rules.proofs.Replay.Replay.{Fresh}
+use Rattle.rules.specs.Executable.{runs, adding, addAll}
+use Rattle.rules.specs.Replay.{insertSorted, Fresh, Neat}
+use Rattle.line.proofs.Members.{all-in, in-all}
 use Rattle.rules.proofs.Replay.Mark.{First}
 use Rattle.rules.proofs.Undo.RunFirst.{first-in}
 use Rattle.rules.proofs.Undo.Cascade.{After, Below, add-after}
-use Rattle.rules.proofs.Replay.Neat.{Neat}
 use Rattle.rules.proofs.Undo.Agree as G
 use Rattle.rules.proofs.Undo.Agree.{does-agree, still-new}
 use Rattle.rules.proofs.Undo.Exist.{IsHeld, is-unrun, is-run, can-add, waiting-held}
 use Rattle.rules.proofs.Calls.Room.{does-length}
-use Rattle.engine_records.specs.Records.{EventFits}
+use Rattle.line.specs.Widths.{EventFits}
 use Rattle.engine_index.specs.Represents.{Cell, cell}
 use Rattle.engine_events.specs.Represents.{heldOf, Has, nonzero, Nodes}
 use Rattle.engine_moves.specs.Promises.{New, Becomes}
@@ -43,20 +41,20 @@ use Rattle.engine_promises.proofs.NewEvents.{as-new}
 
 -- ---- members of a list with an event inserted
 
-inserted : (x : Event) (ws : List Event) → List·Memᴰ x (insert x ws)
-unfolding insert
+inserted : (x : Event) (ws : List Event) → List·Memᴰ x (insertSorted x ws)
+unfolding insertSorted
 inserted x [] = List·Memᴰ·head refl
 inserted x (w ∷ ws) = go (before w x) (inserted x ws)
   where
-    go : (v : Bool) → List·Memᴰ x (insert x ws) → List·Memᴰ x (cond v (w ∷ insert x ws) (x ∷ w ∷ ws))
+    go : (v : Bool) → List·Memᴰ x (insertSorted x ws) → List·Memᴰ x (cond v (w ∷ insertSorted x ws) (x ∷ w ∷ ws))
     go true i = List·Memᴰ·tail i
     go false i = List·Memᴰ·head refl
 
-still-in : {z : Event} (x : Event) (ws : List Event) → List·Memᴰ z ws → List·Memᴰ z (insert x ws)
-unfolding insert
+still-in : {z : Event} (x : Event) (ws : List Event) → List·Memᴰ z ws → List·Memᴰ z (insertSorted x ws)
+unfolding insertSorted
 still-in {z} x (w ∷ ws) m = go (before w x) m (λ k. still-in x ws k)
   where
-    go : (v : Bool) → List·Memᴰ z (w ∷ ws) → (List·Memᴰ z ws → List·Memᴰ z (insert x ws)) → List·Memᴰ z (cond v (w ∷ insert x ws) (x ∷ w ∷ ws))
+    go : (v : Bool) → List·Memᴰ z (w ∷ ws) → (List·Memᴰ z ws → List·Memᴰ z (insertSorted x ws)) → List·Memᴰ z (cond v (w ∷ insertSorted x ws) (x ∷ w ∷ ws))
     go true (List·Memᴰ·head e) ih = List·Memᴰ·head e
     go true (List·Memᴰ·tail k) ih = List·Memᴰ·tail (ih k)
     go false k ih = List·Memᴰ·tail k
@@ -97,7 +95,7 @@ module _ {p : Plan} {n c now : ℕ} {q u : Queue} {x : ℕ} {e : Event} {xs : Li
   R = s .each .0
 
   after : Queue
-  after = add p (s .left) y
+  after = adding p (s .left) y
 
   can : (r : Queue) × Does p (Add y) (s .left) r
   can = can-add p (s .mid .range) (s .left) (s .waiting) (s .states) (s .mid .ok) (s .mid .neat) y
@@ -109,7 +107,7 @@ module _ {p : Plan} {n c now : ℕ} {q u : Queue} {x : ℕ} {e : Event} {xs : Li
   does : Does p (Add y) (s .left) after
   does = subst (Does p (Add y) (s .left)) (agrees .0) (can .1)
 
-  a : After p (insert y (s .waiting)) (s .states) (Below y) (s .left) after
+  a : After p (insertSorted y (s .waiting)) (s .states) (Below y) (s .left) after
   unfolding after
   a = add-after p (s .mid .range) (s .waiting) (s .states) y (s .left) (R .inside) (R .fresh) (s .mid .ok)
 
@@ -128,8 +126,8 @@ module _ {p : Plan} {n c now : ℕ} {q u : Queue} {x : ℕ} {e : Event} {xs : Li
   held-is : heldOf (B .after) ≡ after .held
   held-is = B .holds .stores .held
 
-  held : All (λ z. IsHeld z (after .held)) (insert y (s .waiting))
-  held = waiting-held p (insert y (s .waiting)) (s .states) (after .states) (after .held) (a .ok .replay)
+  held : All (λ z. IsHeld z (after .held)) (insertSorted y (s .waiting))
+  held = waiting-held p (insertSorted y (s .waiting)) (s .states) (after .states) (after .held) (a .ok .replay)
 
   new-cells : New y (heldOf (s .cells))
   new-cells = subst (New y) (sym (s .mid .holds .stores .held)) new
@@ -174,7 +172,7 @@ module _ {p : Plan} {n c now : ℕ} {q u : Queue} {x : ℕ} {e : Event} {xs : Li
   one-more = record {
     left = after;
     cells = B .after;
-    waiting = insert y (s .waiting);
+    waiting = insertSorted y (s .waiting);
     states = s .states;
     mid = record { range = s .mid .range; holds = B .holds; ok = a .ok; neat = subst (λ (r : Queue). Neat p (r .held)) (agrees .0) (agrees .1) };
     at =
@@ -184,7 +182,7 @@ module _ {p : Plan} {n c now : ℕ} {q u : Queue} {x : ℕ} {e : Event} {xs : Li
     state = keeps .1 ∙ s .state;
     nodes = subst (λ z. Nodes (B .after) (ks ++ (node ∷ [])) (es ++ (z ∷ []))) (y-at .1) (nodes-snoc node (y-at .0) (y-at .2) old-nodes);
     waits =
-        all-snoc (λ z. List·Memᴰ z (insert y (s .waiting))) es y (all-map (λ z m. still-in y (s .waiting) m) es (s .waits)) (inserted y (s .waiting));
+        all-snoc (λ z. List·Memᴰ z (insertSorted y (s .waiting))) es y (all-map (λ z m. still-in y (s .waiting) m) es (s .waits)) (inserted y (s .waiting));
     room =
         omega (arith, s .room, does-length does, held-length (s .cells), held-length (B .after), ap length held-is, ap length (s .mid .holds .stores .held));
     rest = s .rest;

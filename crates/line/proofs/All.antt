@@ -1,11 +1,7 @@
 -- What holds of every element of a list, and of any two.
 use mathlib.Core.List.{List, [], _∷_, _++_}
 use Rattle.line.specs.declared.Event.{Event}
-use Rattle.line.proofs.Order.{Differ}
-
-abbrev pub All : {A : Type 0} → (A → Type 0) → List A → Type 0
-All P [] = Unit {0}
-All P (x ∷ xs) = P x × All P xs
+use Rattle.line.specs.Order.{Differ, All}
 
 pub all-map : {A : Type 0} {P Q : A → Type 0} → ((x : A) → P x → Q x) → (xs : List A) → All P xs → All Q xs
 all-map f [] a = tt

@@ -1,4 +1,6 @@
 pub mod All
+pub mod Members
 pub mod Order
 pub mod Fits
 pub mod Sends
+pub mod SendFits

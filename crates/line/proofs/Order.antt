@@ -7,9 +7,10 @@ use mathlib.Core.Bool.{Bool, true, false, true≢false, false≢true}
 use Prim.Native.Nat.{ℕ, zero, suc, _≤_, _<_, suc-le-suc, compare, Ordering, Ordering·lt, Ordering·eq, Ordering·gt, compare·zero-zero, compare·zero-suc, compare·suc-zero, compare·suc-suc}
 use native.Mathlib.Nat.{zero-lt-suc}
 use native.Mathlib.Omega.{arith}
-use lib.Dec.{ltb, isLe}
+use lib.Dec.{ltb, isLe, eqb, isEq}
 use Rattle.line.specs.declared.Event.{Event}
 use Rattle.line.specs.Event.{decide, lex, before}
+use Rattle.line.specs.Order.{Lt, Ge, Differ, fst, snd}
 
 -- ---- one number
 
@@ -28,6 +29,19 @@ tri zero zero = level refl compare·zero-zero
 tri zero (suc n) = below (zero-lt-suc n) (compare·zero-suc n)
 tri (suc m) zero = above (zero-lt-suc m) (compare·suc-zero m)
 tri (suc m) (suc n) = tri-suc (tri m n)
+
+-- one number or another
+pub data Which (m n : ℕ) : Type 0 where
+  this : m ≡ n → eqb m n ≡ true → Which m n
+  other : m ≢ n → eqb m n ≡ false → Which m n
+
+pub which : (m n : ℕ) → Which m n
+which m n = go (tri m n)
+  where
+    go : Tri m n → Which m n
+    go (below h e) = other (omega arith) (ap isEq e)
+    go (level h e) = this h (ap isEq e)
+    go (above h e) = other (omega arith) (ap isEq e)
 
 pub compare-lt : {m n : ℕ} → m < n → compare m n ≡ Ordering·lt
 compare-lt {m} {n} h = go (tri m n)
@@ -193,13 +207,6 @@ tgt-weak = lexed-weak (λ e. e .target) bySrc src-weak
 time-weak : Weak byTime
 time-weak = lexed-weak (λ e. e .time) byTgt tgt-weak
 
--- a is before b; a is not before b (records, so that the events are found from the proofs)
-pub record Lt (a b : Event) : Type 0 where
-  pub is : before a b ≡ true
-
-pub record Ge (a b : Event) : Type 0 where
-  pub is : before a b ≡ false
-
 pub irr : (a : Event) → Ge a a
 irr a = record { is = before-is a a ∙ time-weak .irr a }
 
@@ -222,11 +229,6 @@ cmp a b = go (before a b) refl
     go : (v : Bool) → before a b ≡ v → Cmp a b
     go true e = less (record { is = e })
     go false e = notLess (record { is = e })
-
--- one of the two comes first
-pub data Differ (a b : Event) : Type 0 where
-  fst : Lt a b → Differ a b
-  snd : Lt b a → Differ a b
 
 pub differ-sym : {a b : Event} → Differ a b → Differ b a
 differ-sym (fst h) = snd h

@@ -16,9 +16,10 @@ use Rattle.line.specs.declared.Matter.{Matter}
 use Rattle.line.specs.declared.Matter.the-variants.{Read, Frame, Level}
 use Rattle.line.specs.declared.State.{State}
 use Rattle.line.specs.Station.{Plan, InRange, Outcome, send, silent, period, runRead, drawnState, lose, hear, pass, runFrame, runLevel, runMatter, runAt, runEvent}
-use Rattle.line.proofs.Order.{Differ, differ-number}
+use Rattle.line.specs.Order.{Differ, All}
+use Rattle.line.proofs.Order.{differ-number}
 use Rattle.line.proofs.Fits.{Fits, fits}
-use Rattle.line.proofs.All.{All, all-map, all-snoc, Distinct, distinct-snoc}
+use Rattle.line.proofs.All.{all-map, all-snoc, Distinct, distinct-snoc}
 
 -- the event of one more send of station s on o, and o with that send made
 abbrev pub sending : ℕ → ℕ → ℕ → Matter → Outcome → Event

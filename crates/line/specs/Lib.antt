@@ -1,4 +1,6 @@
 pub mod Event
+pub mod Order
 pub mod Matter
 pub mod Station
 pub mod Answer
+pub mod Widths

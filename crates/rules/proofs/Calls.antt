@@ -1,6 +1,5 @@
 -- The calls: what each keeps, how each is answered, and demand 3 over a list of them.
 pub mod Commit
-pub mod Entries
 pub mod Posts
 pub mod Invariant
 pub mod Step

@@ -1,4 +1,3 @@
-pub mod Members
 pub mod Update
 pub mod Machine
 pub mod Replay

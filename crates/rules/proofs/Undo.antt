@@ -1,5 +1,4 @@
 -- Undo, remove and add as functions, and that they are the rules.
-pub mod Functions
 pub mod Cascade
 pub mod Fuel
 pub mod Agree

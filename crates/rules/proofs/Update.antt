@@ -1,25 +1,12 @@
--- One number or another, and one station's state replaced.
-use mathlib.Core.Path.{_≡_, refl, ap}
+-- One station's state replaced.
+use mathlib.Core.Path.{_≡_, refl}
 use mathlib.Core.Logic.{_≢_}
 use mathlib.Core.Bool.{true, false}
 use Prim.Native.Nat.{ℕ}
-use native.Mathlib.Omega.{arith}
-use lib.Dec.{eqb, isEq}
+use lib.Dec.{eqb}
 use Rattle.line.specs.declared.State.{State}
 use Rattle.line.specs.Station.{States, update}
-use Rattle.line.proofs.Order.{Tri, below, level, above, tri}
-
-pub data Which (m n : ℕ) : Type 0 where
-  this : m ≡ n → eqb m n ≡ true → Which m n
-  other : m ≢ n → eqb m n ≡ false → Which m n
-
-pub which : (m n : ℕ) → Which m n
-which m n = go (tri m n)
-  where
-    go : Tri m n → Which m n
-    go (below h e) = other (omega arith) (ap isEq e)
-    go (level h e) = this h (ap isEq e)
-    go (above h e) = other (omega arith) (ap isEq e)
+use Rattle.line.proofs.Order.{Which, this, other, which}
 
 eqb-same : (m : ℕ) → eqb m m ≡ true
 eqb-same m = go (which m m)

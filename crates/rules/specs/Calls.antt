@@ -15,7 +15,7 @@ use Rattle.rules.specs.Held.{Queue, some, leastUnrun, mark, Lowest, undo
 use Rattle.rules.specs.Undo.{Does, Remove, Add, AddEach}
 use Rattle.rules.specs.Engine.{Engine, Call, Post, Retract, RunStation, RunLowest, Commit, Record, Answer, Refused, Posted, Retracted, Ran, Committed, Recorded}
 use Rattle.rules.specs.Checks.{checks}
-use Rattle.rules.specs.Entry.{entries}
+use Rattle.entry.specs.Entry.{entries}
 
 -- the event of a post
 unfoldable pub postOf : ℕ → ℕ → ℕ → Matter → Event
@@ -24,6 +24,14 @@ postOf n s t m = record { time = t; target = s; source = posted; number = n; mat
 -- the engine with another queue
 unfoldable pub with : Engine → Queue → Engine
 with e q = record { capacity = e .capacity; next = e .next; now = e .now; queue = q }
+
+-- the engine after a post that has left the queue q: the next post has the next number
+abbrev pub afterPost : Engine → Queue → Engine
+afterPost e q = record { capacity = e .capacity; next = suc (e .next); now = e .now; queue = q }
+
+-- the engine with the commit time c: it has dropped every event before c
+abbrev pub atCommit : Engine → ℕ → Engine
+atCommit e c = record { capacity = e .capacity; next = e .next; now = c; queue = record { states = e .queue .states; held = kept c (e .queue .held) } }
 
 -- the queue in which the least unrun event x of its target is run
 unfoldable pub running : Plan → Queue → Event → Queue
@@ -45,7 +53,7 @@ pub data Answers (p : Plan) : Engine → Call → Answer → Engine → Type 0 w
       → matterOf (p .count) kind value ≡ Means m
       → Does p (Add (postOf (e .next) s t m)) (e .queue) q
       → Answers p e (Post s t kind value) (Posted (e .next) (undone (e .queue .held) (q .held)))
-      (record { capacity = e .capacity; next = suc (e .next); now = e .now; queue = q })
+      (afterPost e q)
   -- "retract removes a held post by number"
   retract : {e : Engine} {n : ℕ} {x : Event} {q : Queue}
       → judged (checks p e (Retract n)) ≡ accepted
@@ -65,7 +73,7 @@ pub data Answers (p : Plan) : Engine → Call → Answer → Engine → Type 0 w
   commit : {e : Engine} {c : ℕ} {output : List ℕ}
       → judged (checks p e (Commit c output)) ≡ accepted
       → Answers p e (Commit c output) (committed (logged c (e .queue .held)) output)
-      (record { capacity = e .capacity; next = e .next; now = c; queue = record { states = e .queue .states; held = kept c (e .queue .held) } })
+      (atCommit e c)
   -- "Record answers a station's state as of the commit time."
   recorded : {e : Engine} {s : ℕ}
       → judged (checks p e (Record s)) ≡ accepted

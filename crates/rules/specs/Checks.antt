@@ -5,10 +5,8 @@ use mathlib.Core.List.{List, [], _∷_}
 use lib.Dec.{ltb}
 use lib.ListN.{length}
 use Rattle.refusal.specs.Tests.{stationOut, timeLate, floorLate, timeEarly, passes, tooFew, Check, says}
-use Rattle.line.specs.declared.Meant.{Meant}
-use Rattle.line.specs.declared.Meant.the-variants.{Means, Refused as Unsuited}
 use Rattle.line.specs.Answer.{countsPass}
-use Rattle.line.specs.Matter.{matterOf}
+use Rattle.line.specs.Matter.{matterOf, unsuited}
 use Rattle.line.specs.Station.{Plan, runEvent}
 use Rattle.rules.specs.Held.{Held, Found, none, some, leastUnrun, heldPost, noneUnrun, unrunBefore, logged}
 use Rattle.rules.specs.Engine.{Engine, Call, Post, Retract, RunStation, RunLowest, Commit, Record}
@@ -18,11 +16,6 @@ use Rattle.rules.specs.Engine.{Engine, Call, Post, Retract, RunStation, 
 -- "how many places are free (capacity less held events)"
 abbrev pub free : Engine → ℕ
 free e = e .capacity - length (e .queue .held)
-
--- 10: "The kind isn't 1 to 3, or its value doesn't suit it"
-abbrev pub unsuited : Meant → Bool
-unsuited (Means m) = false
-unsuited (Unsuited r) = true
 
 abbrev pub missing : Found → Bool
 missing none = true
@@ -60,6 +53,7 @@ checks p e (Retract n) = says 13 (noPost n (e .queue .held)) ∷ []
 checks p e (RunStation s) =
     says 9 (stationOut (p .count) s) ∷ says 14 (noneUnrunAt s (e .queue .held)) ∷ says 16 (runPasses p e (leastUnrun s (e .queue .held)))
     ∷ says 17 (runTooFew p e (leastUnrun s (e .queue .held))) ∷ []
+-- 14 alone: where an event is unrun, 16 and 17 are those of the station that the calendar names (Calls, `lowest`)
 checks p e RunLowest = says 14 (noneUnrun (e .queue .held)) ∷ []
 checks p e (Commit c output) =
     says 11 (floorLate c) ∷ says 12 (timeEarly (e .now) c) ∷ says 15 (unrunBefore c (e .queue .held))

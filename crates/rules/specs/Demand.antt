@@ -13,7 +13,7 @@ use Rattle.line.specs.Matter.{matterOf}
 use Rattle.line.specs.Station.{Plan}
 use Rattle.rules.specs.Machine.{Machine, start, Runs}
 use Rattle.rules.specs.Engine.{Engine, Call, Post, Retract, RunStation, RunLowest, Commit, Record, Answer, Refused, Posted, Retracted, Ran, Committed, Recorded}
-use Rattle.rules.specs.Entry.{entries}
+use Rattle.entry.specs.Entry.{entries}
 use Rattle.rules.specs.Calls.{postOf, Answers}
 
 -- a call and its answer

@@ -1,8 +1,9 @@
 pub mod Machine
 pub mod Held
 pub mod Undo
+pub mod Executable
+pub mod Replay
 pub mod Engine
 pub mod Checks
-pub mod Entry
 pub mod Calls
 pub mod Demand

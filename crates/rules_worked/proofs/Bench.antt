@@ -12,9 +12,9 @@ use Rattle.line.specs.Station.{parentOut, numberOut, update, initial, send, sil
 use Rattle.rules.specs.Held.{same, delete, place, leastUnrun, mark, isRun, undone, heldPost, noneUnrun, unrunBefore, logged, kept, recordOf}
 use Rattle.rules.specs.Engine.{opened, Call, Post, RunLowest, Commit, Answer, Posted, Ran, Committed}
 use Rattle.rules.specs.Checks.{checks}
-use Rattle.rules.specs.Entry.{entry, entries}
+use Rattle.entry.specs.Entry.{entry, entries}
 use Rattle.rules.specs.Calls.{postOf, with}
-use Rattle.rules.proofs.Undo.Functions.{runs, beyond, orThis, latest, removeEach, undoFound, undoWithin, undoFrom, remove, add, addAll, runLeast}
+use Rattle.rules.specs.Executable.{runs, beyond, orThis, latest, removeEach, undoFound, undoWithin, undoFrom, removing, adding, addAll, runLeast}
 use Rattle.rules.proofs.Calls.Compute.{settle, postStep, retractStep, runStep, stationStep, lowestOf, commitStep, answerTo, answersTo}
 use Rattle.rules_worked.proofs.Check.{nth, allIn, in-range, at, zeros, pairs, Gives, computed}
 
@@ -37,7 +37,7 @@ answers =
 pub bench : Gives plan 64 calls answers
 unfolding plan station calls answers allIn parentOut numberOut nth pairs zeros
     settle postStep retractStep runStep stationStep lowestOf commitStep answerTo answersTo
-    runs beyond orThis latest removeEach undoFound undoWithin undoFrom remove add addAll runLeast
+    runs beyond orThis latest removeEach undoFound undoWithin undoFrom removing adding addAll runLeast
     postOf with entry entries bytesOf checks orNext judged opened matterOf
     same delete place leastUnrun mark isRun undone heldPost noneUnrun unrunBefore logged kept recordOf
     decide lex before update initial send silent period runRead drawnState lose hear pass runFrame runLevel runMatter runAt runEvent nextDraw

@@ -3,3 +3,4 @@ pub mod Halves
 pub mod Total
 pub mod Laws
 pub mod Bytes
+pub mod Run

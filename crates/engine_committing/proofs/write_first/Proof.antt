@@ -5,7 +5,7 @@ use Prim.Native.Nat.{_-_, _≤_}
 use native.Mathlib.Omega.{arith}
 use borrow.Author.Needs.{needs}
 use lib.ListN.{length}
-use Rattle.engine_records.proofs.RecordLaws.{length-event}
+use Rattle.entry.proofs.EntryLaws.{length-event}
 use Rattle.engine_events.specs.Promises.{AfterHeader}
 use Rattle.engine_events.proofs.AfterHeader.{after-header-same, after-header-on}
 use Rattle.engine_promises.proofs.FoundSlots.{no-slot, slot-event}
@@ -44,10 +44,10 @@ loop-again c =
     let more = i .before .before .before .before .loop-test .taken in
     let gone = c .before .before .release .ensures in (
       omega (arith, more),
-      ap length (w .write-event .ensures) ∙ length-event _ _ _ ∙ inv .1,
+      ap length (w .write .ensures) ∙ length-event _ _ _ ∙ inv .1,
       after-header-on (inv .2) (gone .0),
       writing-on _ _ _ _ _ (inv .3) more (i .before .before .next-logged .ensures)
-          (slot-event (i .slot-in .ensures) _ (f .if1 .left) (w .before .before .event .ensures)) (w .write-event .ensures) (gone .1),
+          (slot-event (i .slot-in .ensures) _ (f .if1 .left) (w .before .before .event .ensures)) (w .write .ensures) (gone .1),
     )
 
 returns-2 : tie.Need-returns-2 Inv-loop μ-loop

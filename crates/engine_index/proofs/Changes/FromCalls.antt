@@ -17,7 +17,8 @@ use Rattle.rings.specs.Walk.{steps}
 use Rattle.rings.proofs.WalkSteps.{at-stop}
 use Rattle.rings.proofs.Confined.{unlink-frame}
 use Rattle.engine_rows.specs.Layout.{slotRow}
-use Rattle.engine_records.specs.Records.{eventAt, putEvent, putState}
+use Rattle.entry.specs.Entry.{eventAt, putEvent}
+use Rattle.engine_records.specs.Records.{putState}
 use Rattle.engine_index.specs.Layout.{linksAt, logAt, nodesOf, slotOf, FindsSlot}
 use Rattle.engine_index.specs.SlotPromises.{Spares, Sets}
 use Rattle.engine_index.specs.Represents.{cell}

@@ -15,7 +15,8 @@ use Rattle.rings.proofs.Places.{below, last-of}
 use Rattle.rings.proofs.Confined.{insert-frame, unlink-frame}
 use Rattle.rings.proofs.Families.{rings-elsewhere, rings-insert}
 use Rattle.engine_rows.specs.Layout.{slotRow}
-use Rattle.engine_records.specs.Records.{putState, StateFits}
+use Rattle.engine_records.specs.Records.{putState}
+use Rattle.line.specs.Widths.{StateFits}
 use Rattle.engine_index.specs.Layout.{linksAt, logAt, nodesOf, slotOf}
 use Rattle.engine_index.specs.Represents.{Cell, cell, ringOf, hasRun, nodesBy, contents, HeldAt, Stands, NoneIn}
 use Rattle.engine_index.specs.Steps.{filed}

@@ -16,7 +16,8 @@ use Rattle.rings.proofs.Places.{below, first-of}
 use Rattle.rings.proofs.Confined.{insert-frame, unlink-frame}
 use Rattle.rings.proofs.Families.{rings-elsewhere}
 use Rattle.engine_rows.specs.Layout.{slotRow}
-use Rattle.engine_records.specs.Records.{putEvent, EventFits}
+use Rattle.entry.specs.Entry.{putEvent}
+use Rattle.line.specs.Widths.{EventFits}
 use Rattle.engine_index.specs.Layout.{linksAt, nodesOf, slotOf}
 use Rattle.engine_index.specs.Represents.{Cell, cell, ringOf, hasRun, AllBefore, AllAfter, Stands}
 use Rattle.engine_index.specs.Steps.{filed}

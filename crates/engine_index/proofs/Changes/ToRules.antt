@@ -8,7 +8,8 @@ use borrow.Author.Tests.{eq-eqb, ne-eqb}
 use Rattle.line.specs.declared.Event.{Event}
 use Rattle.line.specs.declared.State.{State}
 use Rattle.line.specs.Event.{before}
-use Rattle.line.proofs.Order.{Lt, asym}
+use Rattle.line.specs.Order.{Lt}
+use Rattle.line.proofs.Order.{asym}
 use Rattle.rules.specs.Held.{Held, unrun, ran, event, unmark, delete, place, mark, leastUnrun}
 use Rattle.rules.specs.Held.Found.{none, some}
 use Rattle.rules.proofs.Replay.Delete.{same-self, same-lt}

@@ -13,7 +13,7 @@ use Rattle.rules.specs.Held.{Held, unrun, ran}
 use Rattle.rings.specs.Table.{nextOf}
 use Rattle.rings.proofs.Frames.{frame-same}
 use Rattle.engine_rows.specs.Layout.{slotRow}
-use Rattle.engine_records.specs.Records.{eventAt}
+use Rattle.entry.specs.Entry.{eventAt}
 use Rattle.engine_index.specs.Layout.{linksAt, slotOf, indexBytes, inRange, IsSlot, FindsSlot}
 use Rattle.engine_index.specs.SlotPromises.{Spares, Sets}
 use Rattle.engine_index.specs.Represents.{Cell, cell, Stands}

@@ -14,7 +14,8 @@ use Rattle.rings.proofs.Counts.{hit-same}
 use Rattle.rings.proofs.Frames.{store-frame}
 use Rattle.rings.proofs.Families.{rings-elsewhere, free-all}
 use Rattle.engine_rows.specs.Layout.{slotRow}
-use Rattle.engine_records.specs.Records.{eventAt, stateAt}
+use Rattle.entry.specs.Entry.{eventAt}
+use Rattle.engine_records.specs.Records.{stateAt}
 use Rattle.engine_rows.proofs.Rows.{slots}
 use Rattle.engine_index.specs.Layout.{linksAt, logAt, nodesOf, indexBytes, slotOf}
 use Rattle.engine_index.specs.Represents.{Cell, contents, statusAt, HeldAt, Stored, Free, Stands}

@@ -7,7 +7,7 @@ use Prim.Native.Nat.{ℕ, _+_, _*_, _≤_, _<_}
 use native.Mathlib.Omega.{arith}
 use borrow.Author.Tests.{eq-eqb}
 use lib.Dec.{eqb}
-use Rattle.line.proofs.All.{All}
+use Rattle.line.specs.Order.{All}
 use Rattle.rules.specs.Held.{Held, unrun, ran, event}
 use Rattle.rings.specs.Ring.{occurs, inRings, RingIn, Rings}
 use Rattle.rings.proofs.Counts.{hit-same, hit-ne, unlike}

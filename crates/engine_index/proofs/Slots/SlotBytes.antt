@@ -14,8 +14,11 @@ use Rattle.rules.specs.Held.{Held, unrun, ran}
 use Rattle.rings.specs.Table.{Outside, Frame}
 use Rattle.rings.proofs.Frames.{store-frame, frame-on, frame-wider}
 use Rattle.engine_rows.specs.Layout.{slotRow}
-use Rattle.engine_records.specs.Records.{eventAt, putEvent, stateAt, putState, EventFits, StateFits}
-use Rattle.engine_records.proofs.RecordLaws.{length-event, length-state, event-beside, state-beside, event-back, state-back}
+use Rattle.entry.specs.Entry.{eventAt, putEvent}
+use Rattle.engine_records.specs.Records.{stateAt, putState}
+use Rattle.line.specs.Widths.{EventFits, StateFits}
+use Rattle.entry.proofs.EntryLaws.{length-event, event-beside, event-back}
+use Rattle.engine_records.proofs.RecordLaws.{length-state, state-beside, state-back}
 use Rattle.engine_records.proofs.Cells.{number, event, state, read-beside}
 use Rattle.engine_rows.proofs.Rows.{slots}
 use Rattle.engine_index.specs.Layout.{slotOf, linksAt}

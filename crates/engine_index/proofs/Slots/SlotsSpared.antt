@@ -12,7 +12,8 @@ use Rattle.rings.specs.Table.{linkAfter, unlinked, Frame}
 use Rattle.rings.proofs.Frames.{store-frame, frame-wider}
 use Rattle.rings.proofs.Confined.{insert-frame, unlink-frame}
 use Rattle.engine_rows.specs.Layout.{slotRow}
-use Rattle.engine_records.specs.Records.{putEvent, putState}
+use Rattle.entry.specs.Entry.{putEvent}
+use Rattle.engine_records.specs.Records.{putState}
 use Rattle.engine_records.proofs.Cells.{number, beside}
 use Rattle.engine_index.specs.Layout.{linksAt, logAt, nodesOf, slotOf}
 use Rattle.engine_index.specs.Steps.{filed, freed}

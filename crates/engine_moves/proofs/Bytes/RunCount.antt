@@ -8,7 +8,7 @@ use native.Mathlib.Omega.{arith}
 use borrow.Author.Tests.{eq-eqb, ne-eqb}
 use lib.Dec.{eqb}
 use Rattle.words.specs.Le.{loadAt}
-use Rattle.rules.proofs.Update.{Which, this, other, which}
+use Rattle.line.proofs.Order.{Which, this, other, which}
 use Rattle.engine_rows.specs.Layout.{slotRow}
 use Rattle.engine_moves.specs.RunCount.{runsBelow}
 

@@ -8,9 +8,11 @@ use Rattle.words.specs.Le.{loadAt}
 use Rattle.line.specs.declared.State.{State}
 use Rattle.line.specs.Station.{Plan, update}
 use Rattle.rules.specs.Held.{Queue}
-use Rattle.rules.proofs.Update.{Which, this, other, which, update-at, update-other}
+use Rattle.line.proofs.Order.{Which, this, other, which}
+use Rattle.rules.proofs.Update.{update-at, update-other}
 use Rattle.engine_rows.specs.Layout.{stationRow, slotRow}
-use Rattle.engine_records.specs.Records.{stateAt, putState, StateFits}
+use Rattle.engine_records.specs.Records.{stateAt, putState}
+use Rattle.line.specs.Widths.{StateFits}
 use Rattle.engine_records.proofs.RecordLaws.{length-state, state-back}
 use Rattle.engine_records.proofs.Cells.{state, config, beside, read-beside}
 use Rattle.engine_index.specs.Layout.{slotOf}

@@ -11,12 +11,12 @@ use lib.Seq.{getD-set-same, getD-set-other}
 use Rattle.words.specs.Le.{loadAt}
 use Rattle.line.specs.declared.Event.{Event}
 use Rattle.rules.specs.Held.{Held, unrun, event, absent, at, timeOf, registered, leastUnrun, Found}
-use Rattle.rules.proofs.Update.{Which, this, other, which}
+use Rattle.line.proofs.Order.{Which, this, other, which}
 use Rattle.rules.proofs.Undo.RunFirst.{first-in as held-in}
 use Rattle.rules.proofs.Replay.Registered.{registered-at, registered-first}
 use Rattle.rings.specs.Table.{nextOf, Frame}
 use Rattle.engine_rows.specs.Layout.{slotRow}
-use Rattle.engine_records.proofs.RecordLaws.{event-time}
+use Rattle.entry.proofs.EntryLaws.{event-time}
 use Rattle.calendar.specs.declared.Answer.{Answer}
 use Rattle.calendar.specs.Rules.{withTime, registerChecks, registered as entered, unregisterChecks, unregistered}
 use Rattle.calendar.specs.Bytes.{Sound, stateOf}

@@ -7,11 +7,10 @@ use Prim.Native.Nat.{ℕ, _+_, _<_}
 use native.Mathlib.Omega.{arith}
 use Rattle.line.specs.declared.Event.{Event}
 use Rattle.line.specs.Event.{before}
-use Rattle.line.proofs.Order.{irr}
+use Rattle.line.proofs.Order.{irr, Which, this, other, which}
 use Rattle.rules.specs.Held.{Held, unrun, ran, event, leastUnrun}
 use Rattle.rules.specs.Held.Found.{some}
 use Rattle.rules.specs.Undo.{NoneLater}
-use Rattle.rules.proofs.Update.{Which, this, other, which}
 use Rattle.rules.proofs.Replay.LeastUnrun.{least-this, least-other, least-ran}
 use Rattle.engine_index.specs.Represents.{Cell, cell, ringOf, AllBefore, AllAfter, Sorted, NoneIn}
 use Rattle.engine_index.proofs.Rings.Order.{sorted-before, sorted-after}

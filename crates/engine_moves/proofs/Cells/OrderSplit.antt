@@ -4,7 +4,8 @@ use mathlib.Core.Bool.{Bool, true, false, true≢false, not, _&&_}
 use mathlib.Core.List.{List, [], _∷_, _++_, List·Memᴰ·head, List·Memᴰ·tail}
 use Rattle.line.specs.declared.Event.{Event}
 use Rattle.line.specs.Event.{before}
-use Rattle.line.proofs.Order.{Lt, tr}
+use Rattle.line.specs.Order.{Lt}
+use Rattle.line.proofs.Order.{tr}
 use Rattle.rules.specs.Held.{event, same}
 use Rattle.engine_index.specs.Represents.{Cell, AllBefore, AllAfter, Sorted}
 use Rattle.engine_events.specs.Represents.{heldOf}

@@ -12,7 +12,7 @@ use Rattle.rules.proofs.Replay.OtherStations.{place-elsewhere}
 use Rattle.engine_events.specs.Shows.{Inside}
 use Rattle.rings.specs.Table.{Frame}
 use Rattle.engine_rows.specs.Layout.{slotRow}
-use Rattle.engine_records.specs.Records.{EventFits}
+use Rattle.line.specs.Widths.{EventFits}
 use Rattle.engine_index.specs.Layout.{indexBytes}
 use Rattle.engine_index.specs.SlotPromises.{Spares}
 use Rattle.engine_index.specs.Represents.{Cell, cell, Stands, AllBefore, AllAfter}

@@ -9,9 +9,10 @@ use lib.ListN.{length}
 use Rattle.line.specs.declared.Event.{Event}
 use Rattle.line.specs.declared.State.{State}
 use Rattle.line.specs.Station.{Plan, runEvent}
-use Rattle.line.proofs.Order.{Lt, asym, clash}
+use Rattle.line.specs.Order.{Lt}
+use Rattle.line.proofs.Order.{asym, clash}
 use Rattle.rules.specs.Held.{Held, unrun, ran, event, In, Queue, same, delete, registered}
-use Rattle.rules.proofs.Members.{all-in}
+use Rattle.line.proofs.Members.{all-in}
 use Rattle.rules.proofs.Replay.Delete.{same-self}
 use Rattle.rules.proofs.Replay.Replay.{sends-later}
 use Rattle.rules.proofs.Replay.LeastUnrun.{least-ran}
@@ -23,8 +24,7 @@ use Rattle.engine_rows.specs.Layout.{slotRow}
 use Rattle.engine_index.specs.Layout.{indexBytes}
 use Rattle.engine_index.specs.SlotPromises.{Spares}
 use Rattle.engine_index.specs.Represents.{Cell, cell, Stands}
-use Rattle.engine_index.specs.Promises.{Drops}
-use Rattle.engine_index.specs.Promises.{Releases as IndexReleases}
+use Rattle.engine_index.specs.Promises.{Drops, Releases as IndexReleases}
 use Rattle.engine_index.proofs.Changes.ToRules.{delete-cells}
 use Rattle.engine_events.specs.Represents.{heldOf, Has, Stores, Holds}
 use Rattle.engine_moves.specs.Promises.{Becomes, ReleasesEvent, Unsent}

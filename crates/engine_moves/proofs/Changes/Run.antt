@@ -16,7 +16,8 @@ use Rattle.engine_events.specs.Shows.{Inside}
 use Rattle.rings.specs.Table.{Frame}
 use Rattle.rings.proofs.Frames.{store-frame}
 use Rattle.engine_rows.specs.Layout.{stationRow, slotRow}
-use Rattle.engine_records.specs.Records.{putState, StateFits}
+use Rattle.engine_records.specs.Records.{putState}
+use Rattle.line.specs.Widths.{StateFits}
 use Rattle.engine_index.specs.Layout.{indexBytes, slotOf}
 use Rattle.engine_index.specs.SlotPromises.{Spares}
 use Rattle.engine_index.specs.Represents.{Cell, cell}

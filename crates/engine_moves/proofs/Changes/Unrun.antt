@@ -13,7 +13,8 @@ use Rattle.rules.proofs.Replay.OtherStations.{unmark-elsewhere}
 use Rattle.engine_events.specs.Shows.{Inside}
 use Rattle.rings.specs.Table.{Frame}
 use Rattle.engine_rows.specs.Layout.{stationRow, slotRow}
-use Rattle.engine_records.specs.Records.{putState, StateFits}
+use Rattle.engine_records.specs.Records.{putState}
+use Rattle.line.specs.Widths.{StateFits}
 use Rattle.engine_index.specs.Layout.{indexBytes}
 use Rattle.engine_index.specs.SlotPromises.{Spares}
 use Rattle.engine_index.specs.Represents.{Cell, cell}

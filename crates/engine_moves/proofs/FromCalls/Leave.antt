@@ -9,11 +9,10 @@ use Rattle.words.specs.Le.{loadAt}
 use Rattle.line.specs.declared.Event.{Event}
 use Rattle.rules.specs.Held.{unrun}
 use Rattle.engine_rows.specs.Layout.{slotRow}
-use Rattle.engine_records.specs.Records.{eventAt}
+use Rattle.entry.specs.Entry.{eventAt}
 use Rattle.engine_index.specs.Layout.{slotOf, IsSlot}
 use Rattle.engine_index.specs.SlotPromises.{Spares, Sets}
-use Rattle.engine_index.specs.Promises.{Drops}
-use Rattle.engine_index.specs.Promises.{Releases as IndexReleases}
+use Rattle.engine_index.specs.Promises.{Drops, Releases as IndexReleases}
 use Rattle.engine_moves.specs.RunCount.{runsBelow}
 use Rattle.engine_events.specs.Promises.{AfterHeader}
 use Rattle.engine_moves.specs.Steps.{Tells}

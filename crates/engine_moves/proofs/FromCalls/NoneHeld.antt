@@ -9,7 +9,7 @@ use Rattle.line.specs.declared.Event.{Event}
 use Rattle.line.specs.Station.{Plan}
 use Rattle.rules.specs.Held.{Held, event, Queue}
 use Rattle.engine_rows.specs.Layout.{slotRow}
-use Rattle.engine_records.specs.Records.{eventAt}
+use Rattle.entry.specs.Entry.{eventAt}
 use Rattle.engine_index.specs.Layout.{slotOf, IsSlot, FindsSlot}
 use Rattle.engine_index.specs.Represents.{Cell, cell}
 use Rattle.engine_index.proofs.Slots.SlotBytes.{held-event}

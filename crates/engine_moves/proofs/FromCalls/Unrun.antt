@@ -14,7 +14,9 @@ use Rattle.rules.specs.Held.{ran, Queue, unmark}
 use Rattle.rules.specs.Undo.{NoneLater}
 use Rattle.rings.specs.Table.{Frame}
 use Rattle.engine_rows.specs.Layout.{stationRow, slotRow}
-use Rattle.engine_records.specs.Records.{eventAt, stateAt, putState, StateFits}
+use Rattle.entry.specs.Entry.{eventAt}
+use Rattle.engine_records.specs.Records.{stateAt, putState}
+use Rattle.line.specs.Widths.{StateFits}
 use Rattle.engine_records.proofs.RecordLaws.{length-state}
 use Rattle.engine_records.proofs.Fits.{state-fits}
 use Rattle.engine_index.specs.Layout.{slotOf, IsSlot}

@@ -2,7 +2,7 @@
 use Rattle.line.specs.Event.{before as isBefore}
 use mathlib.Core.Path.{_∙_, ap}
 use borrow.Author.Needs.{needs}
-use Rattle.engine_records.proofs.RecordLaws.{told-by-time}
+use Rattle.entry.proofs.EntryLaws.{told-by-time}
 use Rattle.engine_rows.proofs.before.Statement.{statement}
 use Rattle.engine_rows.proofs.before.Tie as tie
 

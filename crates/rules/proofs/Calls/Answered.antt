@@ -11,28 +11,29 @@ use Rattle.line.specs.declared.Matter.{Matter}
 use Rattle.line.specs.declared.Meant.{Meant}
 use Rattle.line.specs.declared.Meant.the-variants.{Means, Refused as Unsuited}
 use Rattle.line.specs.Event.{posted}
-use Rattle.line.specs.Matter.{matterOf}
+use Rattle.line.specs.Matter.{matterOf, unsuited}
 use Rattle.line.specs.Station.{Plan, InRange}
-use Rattle.line.proofs.Order.{Ge, irr, later-time}
+use Rattle.line.specs.Order.{Ge}
+use Rattle.line.proofs.Order.{irr, later-time, Which, this, other, which}
 use Rattle.rules.specs.Held.{Held, unrun, ran, event, Queue, In, Found, none, some, leastUnrun, at, timeOf, registered, Lowest, heldPost, noneUnrun, undone}
 use Rattle.rules.specs.Undo.{Does, Remove, Add, AddEach}
 use Rattle.rules.specs.Engine.{Engine, opened, Call, Post, Retract, RunStation, RunLowest, Commit, Record, Answer, Posted, Retracted, Ran}
-use Rattle.rules.specs.Checks.{missing, unsuited, checks}
-use Rattle.rules.specs.Calls.{postOf, with, running, Answers, refuse, post, retract, run, lowest, commit, recorded}
+use Rattle.rules.specs.Checks.{missing, checks}
+use Rattle.rules.specs.Calls.{postOf, with, running, Answers, refuse, post, retract, run, lowest, commit, recorded, afterPost}
 use Rattle.rules.specs.Demand.{Calls, end, next}
 use Rattle.rules.proofs.Calls.Compute.{Step, settle, postStep, retractStep, runStep, stationStep, lowestOf, commitStep, answerTo, answersTo, leftBy}
-use Rattle.rules.proofs.Undo.Functions as F
-use Rattle.rules.proofs.Undo.Functions.{runs, runLeast}
-use Rattle.rules.proofs.Replay.Replay.{sendsOf, Sorted}
-use Rattle.rules.proofs.Update.{Which, this, other, which}
+use Rattle.rules.specs.Executable as F
+use Rattle.rules.specs.Executable.{runs, runLeast}
+use Rattle.rules.proofs.Replay.Replay.{sendsOf}
+use Rattle.rules.specs.Replay.{InOrder, Neat}
 use Rattle.rules.proofs.Replay.Mark.{First, first-target, first-held}
 use Rattle.rules.proofs.Replay.RunsLeft.{runs-mark}
-use Rattle.rules.proofs.Replay.Neat.{Neat}
 use Rattle.rules.proofs.Undo.Agree.{does-agree}
 use Rattle.rules.proofs.Undo.Exist.{IsHeld, is-unrun, is-run, can-remove, can-add}
 use Rattle.rules.proofs.Undo.Count.{undos, Suits, undone-undos, undone-run, does-falls}
 use Rattle.rules.proofs.Calls.Invariant.{Inv, opened-inv, least-first, held-neat, post-new}
-use Rattle.rules.proofs.Calls.Step.{call-next, not-holding, post-passed, run-fits, running-neat, can-run, run-queue}
+use Rattle.rules.proofs.Calls.Step.{call-next, post-passed, run-fits, running-neat, can-run, run-queue}
+use Rattle.refusal.proofs.CheckingOrder.{not-holding}
 
 -- ---- an answer for every call
 
@@ -64,7 +65,7 @@ registered-some h t u e = go (leastUnrun t h) refl e
     go (some y) k f = (y, k, (cc))
 
 -- the first unrun event of all has the least registered time
-lowest-is : (h : List Held) → Sorted h → noneUnrun h ≡ false → Lowest h (lowestOf h)
+lowest-is : (h : List Held) → InOrder h → noneUnrun h ≡ false → Lowest h (lowestOf h)
 unfolding noneUnrun registered leastUnrun timeOf lowestOf
 lowest-is [] o e = absurd (true≢false e)
 lowest-is (unrun x ∷ h) o e = record { time = x .time; is = here (which (x .target) (x .target)); least = later }
@@ -201,13 +202,13 @@ module _ (p : Plan) (S : InRange p) where
       does-agree p c (held-neat p S e ps gone log i) (post-fits p S e ps gone log i s t kind value y k .0)
       (post-fits p S e ps gone log i s t kind value y k .1) .0 in
       let w : x ≡ y = cc in
-      let z : q ≡ r = u ∙ ap (λ h. F.add p (e .queue) (postOf (e .next) s t h)) w ∙ sym v in
-      (ap (λ h. Posted (e .next) (undone (e .queue .held) (h .held))) z, ap (λ h. record { capacity = e .capacity; next = suc (e .next); now = e .now; queue = h }) z)
+      let z : q ≡ r = u ∙ ap (λ h. F.adding p (e .queue) (postOf (e .next) s t h)) w ∙ sym v in
+      (ap (λ h. Posted (e .next) (undone (e .queue .held) (h .held))) z, ap (afterPost e) z)
   one-answer ps gone log i l (retract j m d) (refuse k) = absurd (differ-verdict j k)
   one-answer ps gone log i l (retract {e = e} {x = x} {q = q} j m d) (retract {x = y} {q = r} k n c) =
       let w : x ≡ y = cc in
       let z : q ≡ r =
-      does-agree p d (held-neat p S e ps gone log i) .0 ∙ ap (F.remove p (e .queue)) w
+      does-agree p d (held-neat p S e ps gone log i) .0 ∙ ap (F.removing p (e .queue)) w
       ∙ sym (does-agree p c (held-neat p S e ps gone log i) .0) in
       (ap (λ h. Retracted (undone (e .queue .held) (h .held))) z, ap (with e) z)
   one-answer ps gone log i l (run j m d) (refuse k) = absurd (differ-verdict j k)

@@ -7,15 +7,16 @@ use native.Mathlib.Nat.{le-trans}
 use native.Mathlib.Omega.{arith}
 use lib.Dec.{ltb, eqb, ltb→lt, nltb→le}
 use Rattle.line.specs.declared.Event.{Event}
-use Rattle.rules.proofs.Machine.Insert.{insertAll}
-use Rattle.rules.proofs.Update.{Which, this, other, which, update-other}
+use Rattle.rules.specs.Replay.{insertAllSorted, Replay, Above, InOrder}
+use Rattle.line.proofs.Order.{Which, this, other, which, later-time}
+use Rattle.rules.proofs.Update.{update-other}
 use Rattle.line.specs.Station.{Plan, States, update}
 use Rattle.rules.specs.Machine.{Machine}
 use Rattle.rules.proofs.Machine.Sorted.{sortedStep, Idle, SortedRuns, rest, goOn}
 use Rattle.rules.specs.Held.{Held, unrun, ran, event, logged, kept, unrunBefore, recordOf}
-use Rattle.line.proofs.Order.{later-time}
-use Rattle.line.proofs.All.{All, all-map}
-use Rattle.rules.proofs.Replay.Replay.{sendsOf, afterOf, Replay, Above, Sorted}
+use Rattle.line.specs.Order.{All}
+use Rattle.line.proofs.All.{all-map}
+use Rattle.rules.proofs.Replay.Replay.{sendsOf, afterOf}
 
 -- ---- the test of a time
 
@@ -64,14 +65,14 @@ pub record Committed (p : Plan) (c : ℕ) (ws : List Event) (st : States) (l : L
   pub states : States
   pub runs : SortedRuns p c (record { waiting = ws; states = st; log = l }) (record { waiting = waiting; states = states; log = l ++ new })
   pub replay : Replay p waiting states cur k
-  pub sorted : Sorted k
+  pub sorted : InOrder k
 
 idle-head : (c : ℕ) (x : Event) (ws vs : List Event) → ws ≡ x ∷ vs → c ≤ x .time → Idle c ws
 unfolding Idle
 idle-head c x ws vs e l = rw e l
 
 halted : (p : Plan) (c : ℕ) (ws : List Event) (st : States) (l : List Event) (cur : States) (h : List Held) → Idle c ws
-    → All (λ y. c ≤ event y .time) h → Replay p ws st cur h → Sorted h
+    → All (λ y. c ≤ event y .time) h → Replay p ws st cur h → InOrder h
     → Committed p c ws st l cur (logged c h) (kept c h)
 halted p c ws st l cur h i a r o = record {
   waiting = ws;
@@ -86,7 +87,7 @@ halted p c ws st l cur h i a r o = record {
     t : (logged c h ≡ []) × (kept c h ≡ h)
     t = all-late c h a
 
-pub commit-log : (p : Plan) (c : ℕ) (ws : List Event) (st : States) (l : List Event) (cur : States) (h : List Held) → Replay p ws st cur h → Sorted h
+pub commit-log : (p : Plan) (c : ℕ) (ws : List Event) (st : States) (l : List Event) (cur : States) (h : List Held) → Replay p ws st cur h → InOrder h
     → unrunBefore c h ≡ false
     → Committed p c ws st l cur (logged c h) (kept c h)
 unfolding unrunBefore Idle sortedStep
@@ -98,13 +99,13 @@ commit-log p c ws st l cur (unrun x ∷ h) r o u = go (isEarly (x .time) c)
     go (late k e) = halted p c ws st l cur (unrun x ∷ h) (idle-head c x ws (r .0) (r .1) k) (k, above-late c x h k (o .0)) r o
 commit-log p c ws st l cur (ran x b ∷ h) r o u =
     go (isEarly (x .time) c)
-    (commit-log p c (insertAll (sendsOf p b x) (r .0)) (update st (x .target) (afterOf p b x)) (l ++ (x ∷ [])) cur h (r .4) (o .1) u)
+    (commit-log p c (insertAllSorted (sendsOf p b x) (r .0)) (update st (x .target) (afterOf p b x)) (l ++ (x ∷ [])) cur h (r .4) (o .1) u)
   where
     st′ : States
     st′ = update st (x .target) (afterOf p b x)
 
     ws′ : List Event
-    ws′ = insertAll (sendsOf p b x) (r .0)
+    ws′ = insertAllSorted (sendsOf p b x) (r .0)
 
     go : Early (x .time) c → Committed p c ws′ st′ (l ++ (x ∷ [])) cur (logged c h) (kept c h)
         → Committed p c ws st l cur (logged c (ran x b ∷ h)) (kept c (ran x b ∷ h))
@@ -121,7 +122,7 @@ commit-log p c ws st l cur (ran x b ∷ h) r o u =
 
         stepped : SortedRuns p c (sortedStep p x (r .0) st l) (end (l ++ (x ∷ logged c h)))
         stepped =
-            subst (λ a. SortedRuns p c (record { waiting = insertAll (sendsOf p a x) (r .0); states = update st (x .target) (afterOf p a x); log = l ++ (x ∷ []) }) (end (l ++ (x ∷ logged c h)))) (r .3)
+            subst (λ a. SortedRuns p c (record { waiting = insertAllSorted (sendsOf p a x) (r .0); states = update st (x .target) (afterOf p a x); log = l ++ (x ∷ []) }) (end (l ++ (x ∷ logged c h)))) (r .3)
             (subst (λ k. SortedRuns p c (record { waiting = ws′; states = st′; log = l ++ (x ∷ []) }) (end k)) (append-assoc l (x ∷ []) (logged c h)) (i .runs))
 
         all : SortedRuns p c (from ws) (end (l ++ (x ∷ logged c h)))
@@ -134,7 +135,7 @@ unfolding recordOf
 record-is p ws st cur [] r s = r .1 s
 record-is p ws st cur (unrun x ∷ h) r s = record-is p (r .0) st cur h (r .4) s
 record-is p ws st cur (ran x b ∷ h) r s =
-    go (which (x .target) s) (record-is p (insertAll (sendsOf p b x) (r .0)) (update st (x .target) (afterOf p b x)) cur h (r .4) s)
+    go (which (x .target) s) (record-is p (insertAllSorted (sendsOf p b x) (r .0)) (update st (x .target) (afterOf p b x)) cur h (r .4) s)
   where
     go : Which (x .target) s → recordOf cur s h ≡ update st (x .target) (afterOf p b x) s → cond (eqb (x .target) s) b (recordOf cur s h) ≡ st s
     go (this e t) i = rw t (r .3 ∙ ap st e)

@@ -9,9 +9,9 @@ use Rattle.line.specs.Station.{Plan}
 use Rattle.rules.specs.Held.{Held, unrun, ran, Queue, Found, none, some, leastUnrun, undone, heldPost, logged, kept, recordOf}
 use Rattle.rules.specs.Engine.{Engine, Call, Post, Retract, RunStation, RunLowest, Commit, Record, Answer, Refused, Posted, Retracted, Ran, Recorded}
 use Rattle.rules.specs.Checks.{checks}
-use Rattle.rules.specs.Calls.{postOf, with, committed}
+use Rattle.rules.specs.Calls.{postOf, with, committed, afterPost, atCommit}
 use Rattle.rules.specs.Demand.{Made}
-use Rattle.rules.proofs.Undo.Functions.{add, remove, runLeast}
+use Rattle.rules.specs.Executable.{adding, removing, runLeast}
 
 pub record Step : Type 0 where
   pub answer : Answer
@@ -24,14 +24,14 @@ settle (refused n) e done = record { answer = Refused n; engine = e }
 
 unfoldable pub postStep : Plan → Engine → ℕ → ℕ → Meant → Step
 postStep p e s t (Means m) =
-    let q : Queue = add p (e .queue) (postOf (e .next) s t m) in
-    record { answer = Posted (e .next) (undone (e .queue .held) (q .held)); engine = record { capacity = e .capacity; next = suc (e .next); now = e .now; queue = q } }
+    let q : Queue = adding p (e .queue) (postOf (e .next) s t m) in
+    record { answer = Posted (e .next) (undone (e .queue .held) (q .held)); engine = afterPost e q }
 postStep p e s t (Unsuited r) = record { answer = Refused 10; engine = e }
 
 unfoldable pub retractStep : Plan → Engine → Found → Step
 retractStep p e none = record { answer = Refused 13; engine = e }
 retractStep p e (some x) =
-    let q : Queue = remove p (e .queue) x in
+    let q : Queue = removing p (e .queue) x in
     record { answer = Retracted (undone (e .queue .held) (q .held)); engine = with e q }
 
 unfoldable pub runStep : Plan → Engine → ℕ → Found → Step
@@ -52,7 +52,7 @@ lowestOf (ran x b ∷ h) = lowestOf h
 unfoldable pub commitStep : Engine → ℕ → List ℕ → Step
 commitStep e c output = record {
   answer = committed (logged c (e .queue .held)) output;
-  engine = record { capacity = e .capacity; next = e .next; now = c; queue = record { states = e .queue .states; held = kept c (e .queue .held) } };
+  engine = atCommit e c;
 }
 
 unfoldable pub answerTo : Plan → Engine → Call → Step

@@ -12,12 +12,12 @@ use Rattle.line.specs.Station.{Plan, InRange}
 use Rattle.rules.specs.Machine.{Machine, start, Runs}
 use Rattle.rules.specs.Held.{recordOf}
 use Rattle.rules.specs.Engine.{Engine, opened, Record, Answer, Recorded}
-use Rattle.rules.specs.Entry.{entries}
+use Rattle.entry.specs.Entry.{entries}
 use Rattle.rules.specs.Calls.{Answers, refuse, recorded}
 use Rattle.rules.specs.Demand.{Made, Calls, end, next, isRefused, postIn, posts, namedIn, retracted, without, fed, timeIn, lastCommit, logIn, logs, Comes, Demand}
 use Rattle.rules.proofs.Machine.Sorted.{sortedStart, SortedRuns}
 use Rattle.rules.proofs.Calls.Commit.{record-is}
-use Rattle.rules.proofs.Replay.Neat.{Strict}
+use Rattle.rules.specs.Replay.{Strict}
 use Rattle.rules.proofs.Machine.Plain.{inOrder, Ready, from-order, one-result, halts-plain}
 use Rattle.rules.proofs.Calls.Invariant.{Inv, opened-inv, fed-keyed, fed-inside, held-neat}
 use Rattle.rules.proofs.Calls.Step.{Next, call-next}

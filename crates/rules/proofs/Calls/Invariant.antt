@@ -11,26 +11,25 @@ use Rattle.line.specs.declared.Event.{Event}
 use Rattle.line.specs.declared.State.{State}
 use Rattle.line.specs.Event.{posted}
 use Rattle.line.specs.Station.{Plan, InRange, States, initial}
-use Rattle.line.proofs.Order.{Lt, Ge, Differ, fst, snd, clash, differ-number, differ-source}
-use Rattle.line.proofs.All.{All, all-map}
+use Rattle.line.specs.Order.{Lt, Ge, Differ, fst, snd, All}
+use Rattle.line.proofs.Order.{clash, differ-number, differ-source, Which, this, other, which}
+use Rattle.line.proofs.All.{all-map}
 use Rattle.line.proofs.Sends.{Sent, event-good}
 use Rattle.rules.specs.Machine.{Machine}
 use Rattle.rules.specs.Held.{Held, unrun, ran, event, some, leastUnrun, heldPost}
 use Rattle.rules.specs.Engine.{Engine, opened}
-use Rattle.rules.specs.Entry.{entries}
+use Rattle.entry.specs.Entry.{entries}
 use Rattle.rules.specs.Demand.{without}
-use Rattle.rules.proofs.Machine.Insert.{insertAll}
-use Rattle.rules.proofs.Update.{Which, this, other, which}
+use Rattle.rules.specs.Replay.{insertAllSorted, Replay, InOrder, Replayed, Strict, Neat}
 use Rattle.rules.proofs.Machine.Sorted.{sortedStart, Idle, SortedRuns, rest}
-use Rattle.rules.proofs.Members.{all-in, in-all}
-use Rattle.rules.proofs.Replay.Replay.{sendsOf, afterOf, Replay, Sorted}
+use Rattle.line.proofs.Members.{all-in, in-all}
+use Rattle.rules.proofs.Replay.Replay.{sendsOf, afterOf}
 use Rattle.rules.proofs.Replay.Mark as C
 use Rattle.rules.proofs.Replay.Mark.{First}
-use Rattle.rules.proofs.Undo.Cascade.{Ok, replay-blocked}
+use Rattle.rules.proofs.Undo.Cascade.{replay-blocked}
 use Rattle.rules.proofs.Calls.Commit.{above-late}
 use Rattle.rules.proofs.Machine.Feed.{Inside, sends-inside, runs-all, replay-all, all-insertAll, runs-idle}
 use Rattle.rules.proofs.Replay.Unique.{Unique, Low, Keyed, keyed-insertAll, replay-unique, replay-low, runs-keyed}
-use Rattle.rules.proofs.Replay.Neat.{Strict, Neat}
 use Rattle.rules.proofs.Undo.Agree.{New}
 use Rattle.rules.proofs.Calls.Posts.{IsPost, Numbered, numbered-distinct, without-all, without-numbered}
 
@@ -39,13 +38,13 @@ pub record Inv (p : Plan) (e : Engine) (posts : List Event) (gone : List ℕ) (l
   pub machine : Machine
   pub steps : SortedRuns p (e .now) (sortedStart p (without gone posts)) machine
   pub log-is : entries (machine .log) ≡ log
-  pub ok : Ok p (machine .waiting) (machine .states) (e .queue)
+  pub ok : Replayed p (machine .waiting) (machine .states) (e .queue)
   pub are-posts : All (IsPost p (e .next)) posts
   pub numbered : Numbered posts
   pub passed : All (λ n. n < e .next) gone
 
 pub opened-inv : (p : Plan) (capacity : ℕ) → Inv p (opened p capacity) [] [] []
-unfolding opened sortedStart insertAll Idle without entries
+unfolding opened sortedStart insertAllSorted Idle without entries
 opened-inv p capacity = record {
   machine = sortedStart p [];
   steps = rest tt;
@@ -115,10 +114,10 @@ module _ (p : Plan) (S : InRange p) (e : Engine) (posts : List Event) (gone log 
   pub fed-inside : All (Inside p S) fed-now
   fed-inside = all-map (λ x w. w .inside) fed-now fed-posts
 
-  pub start-inside : All (Inside p S) (insertAll fed-now [])
+  pub start-inside : All (Inside p S) (insertAllSorted fed-now [])
   start-inside = all-insertAll (Inside p S) fed-now [] fed-inside tt
 
-  start-keyed : Keyed p S (insertAll fed-now []) (initial p)
+  start-keyed : Keyed p S (insertAllSorted fed-now []) (initial p)
   start-keyed = keyed-insertAll p S fed-now [] (initial p) fed-keyed (record { distinct = tt; low = tt }) (in-all (λ x. Unit {0}) fed-now (λ x m. tt))
 
   pub machine-keyed : Keyed p S (i .machine .waiting) (i .machine .states)
@@ -139,7 +138,7 @@ module _ (p : Plan) (S : InRange p) (e : Engine) (posts : List Event) (gone log 
       (runs-all p S Known sends-known (λ y w. w .0) (i .steps) (all-insertAll Known fed-now [] (in-all Known fed-now (λ y m. (all-in (Inside p S) m fed-inside, inr m))) tt))
 
   -- no held event lies before the commit time
-  replay-late : (c : ℕ) (ws : List Event) (st cur : States) (h : List Held) → Idle c ws → Sorted h → Replay p ws st cur h → All (λ z. c ≤ event z .time) h
+  replay-late : (c : ℕ) (ws : List Event) (st cur : States) (h : List Held) → Idle c ws → InOrder h → Replay p ws st cur h → All (λ z. c ≤ event z .time) h
   unfolding Idle
   replay-late c ws st cur [] j o r = tt
   replay-late c ws st cur (unrun x ∷ h) j o r = let k : c ≤ x .time = rw (r .1) at j in (k, above-late c x h k (o .0))
@@ -155,7 +154,7 @@ module _ (p : Plan) (S : InRange p) (e : Engine) (posts : List Event) (gone log 
   later g (snd l) = absurd (clash l g)
 
   -- in order and different: in strict order
-  strict-of : (h : List Held) → Sorted h → Unique h → Strict h
+  strict-of : (h : List Held) → InOrder h → Unique h → Strict h
   strict-of [] o u = tt
   strict-of (y ∷ h) o u = (in-all (λ z. Lt (event y) (event z)) h (λ z m. later (all-in (λ v. Ge (event v) (event y)) m (o .0)) (all-in (λ v. Differ (event y) (event v)) m (u .0))), strict-of h (o .1) (u .1))
 

@@ -9,12 +9,13 @@ use lib.Dec.{eqb}
 use Rattle.line.specs.declared.Event.{Event}
 use Rattle.line.specs.Event.{posted}
 use Rattle.line.specs.Station.{Plan}
-use Rattle.line.proofs.Order.{Differ, differ-number}
-use Rattle.line.proofs.All.{All, all-map, all-snoc, Distinct}
+use Rattle.line.specs.Order.{Differ, All}
+use Rattle.line.proofs.Order.{differ-number, Which, this, other, which}
+use Rattle.line.proofs.All.{all-map, all-snoc, Distinct}
 use Rattle.rules.specs.Demand.{among, without}
-use Rattle.rules.proofs.Machine.Insert.{insert, insertAll, insert-comm}
-use Rattle.rules.proofs.Update.{Which, this, other, which}
-use Rattle.rules.proofs.Members.{all-in}
+use Rattle.rules.specs.Replay.{insertSorted, insertAllSorted}
+use Rattle.rules.proofs.Machine.Insert.{insert-comm}
+use Rattle.line.proofs.Members.{all-in}
 
 pub record IsPost (p : Plan) (next : ℕ) (x : Event) : Type 0 where
   pub inside : x .target < p .count
@@ -34,10 +35,10 @@ pub numbered-distinct : (xs : List Event) → Numbered xs → Distinct xs
 numbered-distinct [] n = tt
 numbered-distinct (x ∷ xs) n = (all-map (λ y d. differ-number x y d) xs (n .0), numbered-distinct xs (n .1))
 
-pub insertAll-snoc : (xs : List Event) (y : Event) (ws : List Event) → All (Differ y) xs → insertAll (xs ++ (y ∷ [])) ws ≡ insert y (insertAll xs ws)
-unfolding insertAll
+pub insertAll-snoc : (xs : List Event) (y : Event) (ws : List Event) → All (Differ y) xs → insertAllSorted (xs ++ (y ∷ [])) ws ≡ insertSorted y (insertAllSorted xs ws)
+unfolding insertAllSorted
 insertAll-snoc [] y ws a = refl
-insertAll-snoc (x ∷ xs) y ws a = ap (insert x) (insertAll-snoc xs y ws (a .1)) ∙ sym (insert-comm (insertAll xs ws) (a .0))
+insertAll-snoc (x ∷ xs) y ws a = ap (insertSorted x) (insertAll-snoc xs y ws (a .1)) ∙ sym (insert-comm (insertAllSorted xs ws) (a .0))
 
 -- ---- numbers left out
 
@@ -124,11 +125,11 @@ one-none n (x ∷ xs) a = one-other n x xs (a .0) ∙ ap (λ l. x ∷ l) (one-no
 
 -- the post x, whose number is n, stands among the waiting events beside the others
 pub without-insert : (n : ℕ) (x : Event) (xs ws : List Event) → List·Memᴰ x xs → x .number ≡ n → Numbered xs
-    → insertAll xs ws ≡ insert x (insertAll (without (n ∷ []) xs) ws)
-unfolding insertAll
+    → insertAllSorted xs ws ≡ insertSorted x (insertAllSorted (without (n ∷ []) xs) ws)
+unfolding insertAllSorted
 without-insert n x (y ∷ ys) ws (List·Memᴰ·head q) e d =
     let k : y .number ≡ n = ap (λ z. z .number) (sym q) ∙ e in
     rw (one-this n y ys k, one-none n ys (all-map (λ z f j. f (k ∙ sym j)) ys (d .0)), q)
 without-insert n x (y ∷ ys) ws (List·Memᴰ·tail j) e d =
     let f : y .number ≢ x .number = all-in (λ z. y .number ≢ z .number) j (d .0) in
-    rw (one-other n y ys (λ q. f (q ∙ sym e))) (ap (insert y) (without-insert n x ys ws j e (d .1)) ∙ insert-comm (insertAll (without (n ∷ []) ys) ws) (differ-number y x f))
+    rw (one-other n y ys (λ q. f (q ∙ sym e))) (ap (insertSorted y) (without-insert n x ys ws j e (d .1)) ∙ insert-comm (insertAllSorted (without (n ∷ []) ys) ws) (differ-number y x f))

@@ -18,7 +18,8 @@ use Rattle.rules.specs.Engine.{Engine, opened, Call, Post, RunStation, A
 use Rattle.rules.specs.Checks.{free, runTooFew, checks}
 use Rattle.rules.specs.Calls.{with, running, Answers, refuse, post, retract, run, lowest, commit, recorded}
 use Rattle.rules.specs.Demand.{Made, Calls, end, next}
-use Rattle.rules.proofs.Calls.Step.{not-holding, le-of}
+use Rattle.refusal.proofs.CheckingOrder.{not-holding}
+use Rattle.rules.proofs.Calls.Step.{le-of}
 
 unmark-length : (x : Event) (h : List Held) → length (unmark x h) ≡ length h
 unfolding unmark

@@ -9,46 +9,43 @@ use native.Mathlib.Omega.{arith}
 use lib.Dec.{ltb, leb, nleb→lt, nltb→le}
 use lib.ListN.{length, drop}
 use Rattle.refusal.specs.Tests.{Verdict, accepted, orNext, judged}
+use Rattle.refusal.proofs.CheckingOrder.{not-holding}
 use Rattle.line.specs.declared.Event.{Event}
 use Rattle.line.specs.declared.Matter.{Matter}
 use Rattle.line.specs.declared.State.{State}
 use Rattle.line.specs.Event.{posted}
 use Rattle.line.specs.Station.{Plan, InRange, initial, runEvent}
-use Rattle.line.proofs.Order.{Differ, differ-number}
-use Rattle.line.proofs.All.{All, all-map, all-snoc}
+use Rattle.line.specs.Order.{Differ, All}
+use Rattle.line.proofs.Order.{differ-number}
+use Rattle.line.proofs.All.{all-map, all-snoc}
 use Rattle.line.proofs.Sends.{Good, event-good}
 use Rattle.rules.specs.Held.{Queue, some, leastUnrun, heldPost, unrunBefore, logged, kept}
 use Rattle.rules.specs.Undo.{Does, Remove, Add, AddEach}
 use Rattle.rules.specs.Engine.{Engine, Call, Post, Commit, Answer}
 use Rattle.rules.specs.Checks.{checks}
-use Rattle.rules.specs.Entry.{entries}
-use Rattle.rules.specs.Calls.{postOf, with, running, committed, Answers, refuse, post, retract, run, lowest, commit, recorded}
+use Rattle.entry.specs.Entry.{entries}
+use Rattle.rules.specs.Calls.{postOf, with, running, committed, Answers, refuse, post, retract, run, lowest, commit, recorded, afterPost, atCommit}
 use Rattle.rules.specs.Demand.{isRefused, postIn, namedIn, without, timeIn, logIn}
-use Rattle.rules.proofs.Undo.Functions as F
-use Rattle.rules.proofs.Undo.Functions.{addAll, runLeast}
-use Rattle.rules.proofs.Machine.Insert.{insert, insertAll}
+use Rattle.rules.specs.Executable as F
+use Rattle.rules.specs.Executable.{addAll, runLeast}
+use Rattle.rules.specs.Replay.{insertSorted, insertAllSorted, Fresh, Replayed, Neat}
 use Rattle.rules.proofs.Machine.Sorted.{sortedStart, SortedRuns}
-use Rattle.rules.proofs.Members.{all-in, all-append}
-use Rattle.rules.proofs.Replay.Replay.{sendsOf, afterOf, Fresh, fresh-above, sends-later}
+use Rattle.line.proofs.Members.{all-in, all-append}
+use Rattle.rules.proofs.Replay.Replay.{sendsOf, afterOf, fresh-above, sends-later}
 use Rattle.rules.proofs.Replay.Mark.{First, first-target, first-small}
-use Rattle.rules.proofs.Undo.Cascade.{Ok, add-after, remove-after, run-ok}
+use Rattle.rules.proofs.Undo.Cascade.{add-after, remove-after, run-ok}
 use Rattle.rules.proofs.Calls.Commit.{Committed as Logged, commit-log}
 use Rattle.rules.proofs.Machine.Feed.{Inside, all-insertAll, alsoWaiting, waitingFor, runs-insert, runs-uninsert, runs-trans}
-use Rattle.rules.proofs.Replay.Neat.{Neat, mark-neat, mark-each}
+use Rattle.rules.proofs.Replay.Neat.{mark-neat, mark-each}
 use Rattle.rules.proofs.Undo.Agree.{does-agree}
 use Rattle.rules.proofs.Undo.Exist.{can-add-each}
 use Rattle.rules.proofs.Undo.RunFirst.{on, does-on}
 use Rattle.rules.proofs.Undo.Count.{Suits}
-use Rattle.rules.proofs.Calls.Entries.{entries-append, entries-first}
+use Rattle.entry.proofs.Entries.{entries-append, entries-first}
 use Rattle.rules.proofs.Calls.Posts.{IsPost, numbered-snoc, insertAll-snoc, without-all, without-append, without-snoc, without-insert, without-numbered}
 use Rattle.rules.proofs.Calls.Invariant.{Inv, held-post, least-first, fed-posts, fed-inside, start-inside, held-known, held-late, held-neat, post-new, sends-new}
 
 -- ---- what an accepted call has passed
-
-pub not-holding : (b : Bool) (n : ℕ) (v : Verdict) → orNext b n v ≡ accepted → (b ≡ false) × (v ≡ accepted)
-unfolding orNext
-not-holding true n v e = let z : _≡_ {A = ℕ} 0 1 = cc in absurd (omega arith)
-not-holding false n v e = (refl, e)
 
 pub lt-of : (m n : ℕ) → leb n m ≡ false → m < n
 lt-of m n e = nleb→lt n m (rw e tt)
@@ -146,17 +143,17 @@ module _ (p : Plan) (S : InRange p) where
     same-inv = rw (append-nil posts, append-nil gone, append-nil log) i
 
     post-inv : (s t : ℕ) (m : Matter) (q : Queue) → s < p .count → e .now ≤ t → Does p (Add (postOf (e .next) s t m)) (e .queue) q
-        → Inv p (record { capacity = e .capacity; next = suc (e .next); now = e .now; queue = q }) (posts ++ (postOf (e .next) s t m ∷ [])) (gone ++ []) (log ++ [])
+        → Inv p (afterPost e q) (posts ++ (postOf (e .next) s t m ∷ [])) (gone ++ []) (log ++ [])
     unfolding postOf sortedStart
     post-inv s t m q h l d = rw (append-nil gone, append-nil log) (record {
       machine = alsoWaiting x (i .machine);
       steps =
           subst (λ ws. SortedRuns p (e .now) (record { waiting = ws; states = initial p; log = [] }) (alsoWaiting x (i .machine)))
-          (sym (ap (λ xs. insertAll xs []) (without-snoc gone posts x (i .passed)) ∙ insertAll-snoc (without gone posts) x [] differs))
+          (sym (ap (λ xs. insertAllSorted xs []) (without-snoc gone posts x (i .passed)) ∙ insertAll-snoc (without gone posts) x [] differs))
           (runs-insert p S x big l (i .steps) (start-inside p S e posts gone log i));
       log-is = i .log-is;
       ok =
-          subst (Ok p (insert x (i .machine .waiting)) (i .machine .states)) (sym agrees)
+          subst (Replayed p (insertSorted x (i .machine .waiting)) (i .machine .states)) (sym agrees)
           (add-after p S (i .machine .waiting) (i .machine .states) x (e .queue) h fresh (i .ok) .ok);
       are-posts =
           all-snoc (IsPost p (suc (e .next))) posts x (all-map (λ y k. record { inside = k .inside; outer = k .outer; numbered = omega (arith, k .numbered) }) posts (i .are-posts))
@@ -179,7 +176,7 @@ module _ (p : Plan) (S : InRange p) where
             fresh-above p S x (i .machine .waiting) (i .machine .states) (e .queue .states) (e .queue .held) (i .ok .replay)
             (λ k. absurd (omega (arith, k, big)))
 
-        agrees : q ≡ F.add p (e .queue) x
+        agrees : q ≡ F.adding p (e .queue) x
         agrees = does-agree p d (held-neat p S e posts gone log i) h (post-new p S e posts gone log i x refl refl) .0
 
     retract-inv : (n : ℕ) (x : Event) (q : Queue) → heldPost n (e .queue .held) ≡ some x → Does p (Remove x) (e .queue) q
@@ -190,8 +187,8 @@ module _ (p : Plan) (S : InRange p) where
       steps = rw (without-append gone (n ∷ []) posts) (u .2);
       log-is = i .log-is;
       ok =
-          subst (Ok p (u .0) (i .machine .states)) (sym (does-agree p d (held-neat p S e posts gone log i) .0))
-          (remove-after p S (u .0) (i .machine .states) x (e .queue) fresh (subst (λ ws. Ok p ws (i .machine .states) (e .queue)) (u .1) (i .ok)) .ok);
+          subst (Replayed p (u .0) (i .machine .states)) (sym (does-agree p d (held-neat p S e posts gone log i) .0))
+          (remove-after p S (u .0) (i .machine .states) x (e .queue) fresh (subst (λ ws. Replayed p ws (i .machine .states) (e .queue)) (u .1) (i .ok)) .ok);
       are-posts = i .are-posts;
       numbered = i .numbered;
       passed = all-append (λ j. j < e .next) gone (n ∷ []) (i .passed) (subst (λ j. j < e .next) (f .2) (is-post .numbered), tt);
@@ -218,9 +215,9 @@ module _ (p : Plan) (S : InRange p) where
         late : e .now ≤ x .time
         late = held-post (λ y. e .now ≤ y .time) n (e .queue .held) x k (held-late p S e posts gone log i) .0
 
-        u : (us : List Event) × (i .machine .waiting ≡ insert x us) × SortedRuns p (e .now) (record { waiting = insertAll (without (n ∷ []) (without gone posts)) []; states = initial p; log = [] }) (waitingFor us (i .machine))
+        u : (us : List Event) × (i .machine .waiting ≡ insertSorted x us) × SortedRuns p (e .now) (record { waiting = insertAllSorted (without (n ∷ []) (without gone posts)) []; states = initial p; log = [] }) (waitingFor us (i .machine))
         u =
-            runs-uninsert p S x big late (insertAll (without (n ∷ []) (without gone posts)) []) (i .steps) (without-insert n x (without gone posts) [] mem (f .2) (without-numbered gone posts (i .numbered)))
+            runs-uninsert p S x big late (insertAllSorted (without (n ∷ []) (without gone posts)) []) (i .steps) (without-insert n x (without gone posts) [] mem (f .2) (without-numbered gone posts (i .numbered)))
             (all-insertAll (Inside p S) (without (n ∷ []) (without gone posts)) [] (without-all (Inside p S) (n ∷ []) (without gone posts) (fed-inside p S e posts gone log i)) tt)
 
         fresh : Fresh p x (e .queue .held)
@@ -237,7 +234,7 @@ module _ (p : Plan) (S : InRange p) where
       steps = i .steps;
       log-is = i .log-is;
       ok =
-          subst (Ok p (i .machine .waiting) (i .machine .states)) (sym (run-queue e posts gone log i x f q d))
+          subst (Replayed p (i .machine .waiting) (i .machine .states)) (sym (run-queue e posts gone log i x f q d))
           (run-ok p S (i .machine .waiting) (i .machine .states) (e .queue) x f (i .ok));
       are-posts = i .are-posts;
       numbered = i .numbered;
@@ -251,7 +248,7 @@ module _ (p : Plan) (S : InRange p) where
         f = subst (λ t. First t x (e .queue .held)) (sym (first-target g)) g
 
     commit-inv : (c : ℕ) (output : List ℕ) → e .now ≤ c → unrunBefore c (e .queue .held) ≡ false
-        → Inv p (record { capacity = e .capacity; next = e .next; now = c; queue = record { states = e .queue .states; held = kept c (e .queue .held) } }) (posts ++ []) (gone ++ [])
+        → Inv p (atCommit e c) (posts ++ []) (gone ++ [])
         (log ++ logIn (committed (logged c (e .queue .held)) output))
     unfolding logIn
     commit-inv c output l u =

@@ -6,7 +6,7 @@ use Prim.Native.Nat.{ℕ, _≤_, _<_}
 use native.Mathlib.Omega.{arith}
 use Rattle.line.specs.declared.Event.{Event}
 use Rattle.rules.specs.Held.{Held, unrun, ran, In, absent, at, registered, noneUnrun, unrunBefore}
-use Rattle.rules.proofs.Replay.Replay.{Sorted}
+use Rattle.rules.specs.Replay.{InOrder}
 use Rattle.rules.proofs.Calls.Commit.{Early, early, late, isEarly}
 use Rattle.rules.proofs.Undo.RunFirst.{first-in}
 use Rattle.rules.proofs.Replay.LeastUnrun.{AllUnrun, NoUnrun, unrun-in, unrun-first}
@@ -63,7 +63,7 @@ none-early c h s t e k =
     let l : c ≤ r .0 .time = unrun-in (λ x. c ≤ x .time) (r .0) h (first-in (r .1)) (late-unrun c h e) in
     omega (arith, r .2)
 
-pub some-early : (c : ℕ) (h : List Held) → Sorted h → unrunBefore c h ≡ true → (s t : ℕ) × (registered h s ≡ at t) × (t < c)
+pub some-early : (c : ℕ) (h : List Held) → InOrder h → unrunBefore c h ≡ true → (s t : ℕ) × (registered h s ≡ at t) × (t < c)
 some-early c h o e =
     let x = early-unrun c h e in
     let r = unrun-registered (x .0) h o (x .1) in

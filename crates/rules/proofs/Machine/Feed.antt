@@ -8,16 +8,18 @@ use native.Mathlib.Nat.{le-trans}
 use native.Mathlib.Omega.{arith}
 use Rattle.line.specs.declared.Event.{Event}
 use Rattle.line.specs.Event.{before}
-use Rattle.rules.proofs.Machine.Insert.{insert, insertAll, insert-lt, insert-all, Where, front, back, insert-where, Uncons, uncons}
+use Rattle.rules.specs.Replay.{insertSorted, insertAllSorted, Replay}
+use Rattle.rules.proofs.Machine.Insert.{insert-lt, insert-all, Where, front, back, insert-where, Uncons, uncons}
 use Rattle.line.specs.Station.{Plan, InRange, States, update}
 use Rattle.line.specs.declared.State.{State}
 use Rattle.rules.specs.Machine.{Machine}
 use Rattle.rules.proofs.Machine.Sorted.{sortedStep, Idle, SortedRuns, rest, goOn}
 use Rattle.rules.specs.Held.{Held, unrun, ran, event}
-use Rattle.line.proofs.Order.{Cmp, less, notLess, cmp, earlier, later-time, Differ, differ-source}
-use Rattle.line.proofs.All.{All, all-map}
+use Rattle.line.proofs.Order.{Cmp, less, notLess, cmp, earlier, later-time, differ-source}
+use Rattle.line.specs.Order.{Differ, All}
+use Rattle.line.proofs.All.{all-map}
 use Rattle.line.proofs.Sends.{event-good}
-use Rattle.rules.proofs.Replay.Replay.{sendsOf, afterOf, Replay}
+use Rattle.rules.proofs.Replay.Replay.{sendsOf, afterOf}
 
 pub runs-idle : {p : Plan} {c : ℕ} {m k : Machine} → SortedRuns p c m k → Idle c (k .waiting)
 runs-idle (rest i) = i
@@ -29,38 +31,38 @@ runs-trans (rest i) le s = s
 runs-trans (goOn l r) le s = goOn (le-trans l le) (runs-trans r le s)
 
 -- what holds of all waiting events and of all sends holds of all events that come up
-pub all-insert : (P : Event → Type 0) (x : Event) (ws : List Event) → P x → All P ws → All P (insert x ws)
-unfolding insert
+pub all-insert : (P : Event → Type 0) (x : Event) (ws : List Event) → P x → All P ws → All P (insertSorted x ws)
+unfolding insertSorted
 all-insert P x [] h a = (h, tt)
 all-insert P x (w ∷ ws) h a = go (before w x) (all-insert P x ws h (a .1))
   where
-    go : (v : Bool) → All P (insert x ws) → All P (cond v (w ∷ insert x ws) (x ∷ w ∷ ws))
+    go : (v : Bool) → All P (insertSorted x ws) → All P (cond v (w ∷ insertSorted x ws) (x ∷ w ∷ ws))
     go true i = (a .0, i)
     go false i = (h, a)
 
-pub all-insertAll : (P : Event → Type 0) (xs ws : List Event) → All P xs → All P ws → All P (insertAll xs ws)
-unfolding insertAll
+pub all-insertAll : (P : Event → Type 0) (xs ws : List Event) → All P xs → All P ws → All P (insertAllSorted xs ws)
+unfolding insertAllSorted
 all-insertAll P [] ws h a = a
-all-insertAll P (x ∷ xs) ws h a = all-insert P x (insertAll xs ws) (h .0) (all-insertAll P xs ws (h .1) a)
+all-insertAll P (x ∷ xs) ws h a = all-insert P x (insertAllSorted xs ws) (h .0) (all-insertAll P xs ws (h .1) a)
 
 -- the machine with y waiting too
 abbrev pub alsoWaiting : Event → Machine → Machine
-alsoWaiting y m = record { waiting = insert y (m .waiting); states = m .states; log = m .log }
+alsoWaiting y m = record { waiting = insertSorted y (m .waiting); states = m .states; log = m .log }
 
 -- the machine with other waiting events
 abbrev pub waitingFor : List Event → Machine → Machine
 waitingFor ws m = record { waiting = ws; states = m .states; log = m .log }
 
-idle-insert : (c : ℕ) (y : Event) (ws : List Event) → c ≤ y .time → Idle c ws → Idle c (insert y ws)
+idle-insert : (c : ℕ) (y : Event) (ws : List Event) → c ≤ y .time → Idle c ws → Idle c (insertSorted y ws)
 unfolding Idle
 idle-insert c y ws l i = go (insert-where y ws)
   where
-    go : Where y ws → Idle c (insert y ws)
+    go : Where y ws → Idle c (insertSorted y ws)
     go (front e) = rw e l
     go (back w vs e k f) = rw f (rw e at i)
 
-idle-uninsert : (c : ℕ) (y : Event) (ws : List Event) → c ≤ y .time → Idle c (insert y ws) → Idle c ws
-unfolding Idle insert
+idle-uninsert : (c : ℕ) (y : Event) (ws : List Event) → c ≤ y .time → Idle c (insertSorted y ws) → Idle c ws
+unfolding Idle insertSorted
 idle-uninsert c y [] l i = tt
 idle-uninsert c y (w ∷ ws) l i = go (cmp w y)
   where
@@ -92,7 +94,7 @@ module _ (p : Plan) (S : InRange p) where
   replay-all P f ws st cur (unrun x ∷ h) r a = let b : All P (x ∷ r .0) = rw (r .1) at a in (b .0, replay-all P f (r .0) st cur h (r .4) (b .1))
   replay-all P f ws st cur (ran x b ∷ h) r a =
       let d : All P (x ∷ r .0) = rw (r .1) at a in
-      (d .0, replay-all P f (insertAll (sendsOf p b x) (r .0)) (update st (x .target) (afterOf p b x)) cur h (r .4) (all-insertAll P (sendsOf p b x) (r .0) (f b x (r .2)) (d .1)))
+      (d .0, replay-all P f (insertAllSorted (sendsOf p b x) (r .0)) (update st (x .target) (afterOf p b x)) cur h (r .4) (all-insertAll P (sendsOf p b x) (r .0) (f b x (r .2)) (d .1)))
 
   -- an event from outside at or after c, fed too
   pub runs-insert : (y : Event) → p .count ≤ y .source → {c : ℕ} {m k : Machine} → c ≤ y .time → SortedRuns p c m k → All Inside (m .waiting)
@@ -113,14 +115,14 @@ module _ (p : Plan) (S : InRange p) where
 
   -- and not fed
   pub runs-uninsert : (y : Event) → p .count ≤ y .source → {c : ℕ} {m k : Machine} → c ≤ y .time → (vs : List Event) → SortedRuns p c m k
-      → m .waiting ≡ insert y vs → All Inside vs
-      → (us : List Event) × (k .waiting ≡ insert y us) × SortedRuns p c (waitingFor vs m) (waitingFor us k)
-  unfolding sortedStep insertAll
+      → m .waiting ≡ insertSorted y vs → All Inside vs
+      → (us : List Event) × (k .waiting ≡ insertSorted y us) × SortedRuns p c (waitingFor vs m) (waitingFor us k)
+  unfolding sortedStep insertAllSorted
   runs-uninsert y o {c} {m} {k} l vs (rest i) e a = (vs, e, rest (idle-uninsert c y vs l (subst (Idle c) e i)))
   runs-uninsert y o {c} {m} {k} l vs (goOn {x = x} {ws = ws} {st = st} {log = log} t r) e a =
       let i =
-      runs-uninsert y o l (insertAll xs (u .rest)) r
-      (ap (insertAll xs) (u .tail) ∙ sym (insert-all y xs (u .rest) (outside-differs y o b x small))) inside in
+      runs-uninsert y o l (insertAllSorted xs (u .rest)) r
+      (ap (insertAllSorted xs) (u .tail) ∙ sym (insert-all y xs (u .rest) (outside-differs y o b x small))) inside in
       (i .0, i .1, subst (λ ts. SortedRuns p c (record { waiting = ts; states = st; log = log }) (waitingFor (i .0) k)) (sym (u .whole)) (goOn t (i .2)))
     where
       b : State
@@ -138,5 +140,5 @@ module _ (p : Plan) (S : InRange p) where
       small : Inside x
       small = all .0
 
-      inside : All Inside (insertAll xs (u .rest))
+      inside : All Inside (insertAllSorted xs (u .rest))
       inside = all-insertAll Inside xs (u .rest) (all-map (λ z w. w .0) xs (sends-inside b x small)) (all .1)

@@ -9,12 +9,13 @@ use native.Mathlib.Omega.{arith}
 use lib.ListN.{length}
 use Rattle.line.specs.declared.Event.{Event}
 use Rattle.line.specs.Event.{before}
-use Rattle.rules.proofs.Machine.Insert.{insert, insertAll}
+use Rattle.rules.specs.Replay.{insertSorted, insertAllSorted}
 use Rattle.line.specs.Station.{Plan, InRange, States, update}
 use Rattle.line.specs.declared.State.{State}
 use Rattle.rules.specs.Machine.{Machine}
 use Rattle.rules.proofs.Machine.Sorted.{sortedStep, Idle, SortedRuns, rest, goOn}
-use Rattle.line.proofs.All.{All, all-map}
+use Rattle.line.specs.Order.{All}
+use Rattle.line.proofs.All.{all-map}
 use Rattle.line.proofs.Sends.{event-good, sends-few}
 use Rattle.rules.proofs.Replay.Replay.{sendsOf, afterOf}
 use Rattle.rules.proofs.Calls.Commit.{Early, early, late, isEarly}
@@ -27,19 +28,19 @@ total : ℕ → List Event → ℕ
 total c [] = 0
 total c (x ∷ ws) = weight c x + total c ws
 
-total-insert : (c : ℕ) (x : Event) (ws : List Event) → total c (insert x ws) ≡ weight c x + total c ws
-unfolding insert total
+total-insert : (c : ℕ) (x : Event) (ws : List Event) → total c (insertSorted x ws) ≡ weight c x + total c ws
+unfolding insertSorted total
 total-insert c x [] = refl
 total-insert c x (w ∷ ws) = go (before w x) (total-insert c x ws)
   where
-    go : (v : Bool) → total c (insert x ws) ≡ weight c x + total c ws → total c (cond v (w ∷ insert x ws) (x ∷ w ∷ ws)) ≡ weight c x + (weight c w + total c ws)
+    go : (v : Bool) → total c (insertSorted x ws) ≡ weight c x + total c ws → total c (cond v (w ∷ insertSorted x ws) (x ∷ w ∷ ws)) ≡ weight c x + (weight c w + total c ws)
     go true i = omega arith
     go false i = refl
 
-total-all : (c : ℕ) (xs ws : List Event) → total c (insertAll xs ws) ≡ total c xs + total c ws
-unfolding insertAll total
+total-all : (c : ℕ) (xs ws : List Event) → total c (insertAllSorted xs ws) ≡ total c xs + total c ws
+unfolding insertAllSorted total
 total-all c [] ws = omega arith
-total-all c (x ∷ xs) ws = omega (arith, total-insert c x (insertAll xs ws), total-all c xs ws)
+total-all c (x ∷ xs) ws = omega (arith, total-insert c x (insertAllSorted xs ws), total-all c xs ws)
 
 pow-pos3 : (k : ℕ) → 1 ≤ 3 ^ k
 pow-pos3 zero = omega arith
@@ -77,15 +78,15 @@ module _ (p : Plan) (S : InRange p) (c : ℕ) where
   halts-within (suc n) [] st log l a = (record { waiting = []; states = st; log = log }, rest tt)
   halts-within (suc n) (x ∷ ws) st log l a =
       go (isEarly (x .time) c)
-      (λ k j. halts-within n (insertAll (sendsOf p (st (x .target)) x) ws) (update st (x .target) (afterOf p (st (x .target)) x)) (log ++ (x ∷ [])) k j)
+      (λ k j. halts-within n (insertAllSorted (sendsOf p (st (x .target)) x) ws) (update st (x .target) (afterOf p (st (x .target)) x)) (log ++ (x ∷ [])) k j)
     where
       xs : List Event
       xs = sendsOf p (st (x .target)) x
 
       next : Machine
-      next = record { waiting = insertAll xs ws; states = update st (x .target) (afterOf p (st (x .target)) x); log = log ++ (x ∷ []) }
+      next = record { waiting = insertAllSorted xs ws; states = update st (x .target) (afterOf p (st (x .target)) x); log = log ++ (x ∷ []) }
 
-      go : Early (x .time) c → (total c (insertAll xs ws) ≤ n → All (Inside p S) (insertAll xs ws) → (k : Machine) × SortedRuns p c next k)
+      go : Early (x .time) c → (total c (insertAllSorted xs ws) ≤ n → All (Inside p S) (insertAllSorted xs ws) → (k : Machine) × SortedRuns p c next k)
           → (k : Machine) × SortedRuns p c (record { waiting = x ∷ ws; states = st; log = log }) k
       go (late j _) ih = (record { waiting = x ∷ ws; states = st; log = log }, rest j)
       go (early j _) ih =

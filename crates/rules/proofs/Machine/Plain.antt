@@ -6,11 +6,13 @@ use native.Mathlib.Nat.{le-trans}
 use native.Mathlib.Omega.{arith}
 use Rattle.line.specs.declared.Event.{Event}
 use Rattle.line.specs.Station.{Plan, InRange, States, update}
-use Rattle.line.proofs.Order.{Lt, Ge, Cmp, less, notLess, cmp, Differ, fst, snd, differ-sym, irr, clash, asym, lt-ge, later-time}
-use Rattle.line.proofs.All.{All, all-map, Distinct}
+use Rattle.line.specs.Order.{Lt, Ge, Differ, fst, snd, All}
+use Rattle.line.proofs.Order.{Cmp, less, notLess, cmp, differ-sym, irr, clash, asym, lt-ge, later-time}
+use Rattle.line.proofs.All.{all-map, Distinct}
 use Rattle.rules.specs.Machine.{Machine, Takes, here, there, Least, step, Runs, halt, more}
-use Rattle.rules.proofs.Members.{all-in, in-all, all-append}
-use Rattle.rules.proofs.Machine.Insert.{insert, insertAll, insertAll-nil, insert-nil, insert-lt, insert-all, Disjoint, all-all, all-head}
+use Rattle.line.proofs.Members.{all-in, in-all, all-append}
+use Rattle.rules.specs.Replay.{insertSorted, insertAllSorted}
+use Rattle.rules.proofs.Machine.Insert.{insertAll-nil, insert-nil, insert-lt, insert-all, Disjoint, all-all, all-head}
 use Rattle.rules.proofs.Machine.Sorted.{sortedStep, Idle, SortedRuns, rest, goOn}
 use Rattle.rules.proofs.Replay.Replay.{sendsOf, afterOf}
 use Rattle.rules.proofs.Machine.Feed.{all-insertAll, waitingFor, Inside, sends-inside}
@@ -19,14 +21,14 @@ use Rattle.rules.proofs.Machine.Halts.{halts-from}
 
 -- the machine with its waiting events in order
 abbrev pub inOrder : Machine → Machine
-inOrder m = record { waiting = insertAll (m .waiting) []; states = m .states; log = m .log }
+inOrder m = record { waiting = insertAllSorted (m .waiting) []; states = m .states; log = m .log }
 
 -- ---- lists joined
 
-insertAll-append : (xs ys ws : List Event) → insertAll (xs ++ ys) ws ≡ insertAll xs (insertAll ys ws)
-unfolding insertAll
+insertAll-append : (xs ys ws : List Event) → insertAllSorted (xs ++ ys) ws ≡ insertAllSorted xs (insertAllSorted ys ws)
+unfolding insertAllSorted
 insertAll-append [] ys ws = refl
-insertAll-append (x ∷ xs) ys ws = ap (insert x) (insertAll-append xs ys ws)
+insertAll-append (x ∷ xs) ys ws = ap (insertSorted x) (insertAll-append xs ys ws)
 
 disjoint-sym : (xs ys : List Event) → Disjoint xs ys → Disjoint ys xs
 disjoint-sym xs ys d = in-all (λ y. All (Differ y) xs) ys (λ y m. all-map (λ x a. differ-sym (all-in (Differ x) m a)) xs d)
@@ -55,7 +57,7 @@ ahead-all : (x : Event) (ws : List Event) → All (Differ x) ws → Under x ws �
 ahead-all x [] d u = tt
 ahead-all x (w ∷ ws) d u = (ahead (d .0) (u .0), ahead-all x ws (d .1) (u .1))
 
-takes-all : (P : Event → Type 0) {x : Event} {ws vs : List Event} → Takes x ws vs → All P ws → P x × All P vs
+pub takes-all : (P : Event → Type 0) {x : Event} {ws vs : List Event} → Takes x ws vs → All P ws → P x × All P vs
 takes-all P here a = a
 takes-all P (there t) a = let b = takes-all P t (a .1) in (b .0, (a .0, b .1))
 
@@ -64,11 +66,11 @@ takes-distinct here d = d .1
 takes-distinct (there {w = w} t) d = (takes-all (Differ w) t (d .0) .1, takes-distinct t (d .1))
 
 -- the least event comes first in order
-takes-first : {x : Event} {ws vs : List Event} → Takes x ws vs → Distinct ws → Under x ws → insertAll ws [] ≡ x ∷ insertAll vs []
-unfolding insertAll
-takes-first {x} (here {ws = ws}) d u = insert-all x ws [] (d .0) ∙ ap (insertAll ws) (insert-nil x) ∙ all-head x ws [] (ahead-all x ws (d .0) (u .1))
+takes-first : {x : Event} {ws vs : List Event} → Takes x ws vs → Distinct ws → Under x ws → insertAllSorted ws [] ≡ x ∷ insertAllSorted vs []
+unfolding insertAllSorted
+takes-first {x} (here {ws = ws}) d u = insert-all x ws [] (d .0) ∙ ap (insertAllSorted ws) (insert-nil x) ∙ all-head x ws [] (ahead-all x ws (d .0) (u .1))
 takes-first (there {w = w} {vs = vs} t) d u =
-    ap (insert w) (takes-first t (d .1) (u .1)) ∙ insert-lt (insertAll vs []) (ahead (differ-sym (takes-all (Differ w) t (d .0) .0)) (u .0))
+    ap (insertSorted w) (takes-first t (d .1) (u .1)) ∙ insert-lt (insertAllSorted vs []) (ahead (differ-sym (takes-all (Differ w) t (d .0) .0)) (u .0))
 
 -- and it is one event in one place
 takes-one : {x y : Event} {ws vs us : List Event} → Takes x ws vs → Takes y ws us → Distinct ws → Under x ws → Under y ws → (x ≡ y) × (vs ≡ us)
@@ -104,7 +106,7 @@ unfolding Idle
 all-idle c [] a = tt
 all-idle c (w ∷ ws) a = a .0
 
-idle-all : (c : ℕ) (ws : List Event) → Distinct ws → Idle c (insertAll ws []) → All (Late c) ws
+idle-all : (c : ℕ) (ws : List Event) → Distinct ws → Idle c (insertAllSorted ws []) → All (Late c) ws
 unfolding Idle
 idle-all c ws d i = go (lowest ws)
   where
@@ -124,7 +126,7 @@ module _ (p : Plan) (S : InRange p) where
 
   -- a step leaves the machine ready, and its sorted form takes the same step
   step-both : (m : Machine) {x : Event} {vs : List Event} → Ready m → Takes x (m .waiting) vs
-      → Ready (step p x vs m) × (inOrder (step p x vs m) ≡ sortedStep p x (insertAll vs []) (m .states) (m .log))
+      → Ready (step p x vs m) × (inOrder (step p x vs m) ≡ sortedStep p x (insertAllSorted vs []) (m .states) (m .log))
   unfolding step sortedStep
   step-both m {x} {vs} q t = (
     record {
@@ -153,7 +155,7 @@ module _ (p : Plan) (S : InRange p) where
 
   -- what the plain machine does, its sorted form does
   pub to-order : {c : ℕ} {m k : Machine} → Ready m → Runs p c m k → SortedRuns p c (inOrder m) (inOrder k)
-  to-order {c} {m} q (halt h) = rest (all-idle c (insertAll (m .waiting) []) (all-insertAll (Late c) (m .waiting) [] (in-all (Late c) (m .waiting) h) tt))
+  to-order {c} {m} q (halt h) = rest (all-idle c (insertAllSorted (m .waiting) []) (all-insertAll (Late c) (m .waiting) [] (in-all (Late c) (m .waiting) h) tt))
   to-order {c} {m} {k} q (more {x = x} t l e r) =
       subst (λ ws. SortedRuns p c (waitingFor ws m) (inOrder k)) (sym (takes-first t (q .keyed .distinct) (least-under x (m .waiting) l)))
       (goOn e (subst (λ n. SortedRuns p c n (inOrder k)) (step-both m q t .1) (to-order (step-both m q t .0) r)))
@@ -163,7 +165,7 @@ module _ (p : Plan) (S : InRange p) where
   follow {c} (rest i) m q e = (m, halt (λ w j. all-in (Late c) j (idle-all c (m .waiting) (q .keyed .distinct) (subst (λ k. Idle c (k .waiting)) e i))), sym e)
   follow {c} {n = n} (goOn {x = x} {ws = ws} {st = st} {log = log} l r) m q e = go (lowest (m .waiting)) (λ k g f. follow r k g f)
     where
-      waits : x ∷ ws ≡ insertAll (m .waiting) []
+      waits : x ∷ ws ≡ insertAllSorted (m .waiting) []
       waits = ap (λ k. k .waiting) e
 
       go : Lowest (m .waiting) → ((k : Machine) → Ready k → sortedStep p x ws st log ≡ inOrder k → (k′ : Machine) × Runs p c k k′ × (inOrder k′ ≡ n))

@@ -4,17 +4,17 @@ use mathlib.Core.List.{List, [], _∷_, _++_}
 use Rattle.line.specs.declared.Event.{Event}
 use Rattle.line.specs.Station.{Plan, States, update, initial, Outcome, runEvent}
 use Rattle.rules.specs.Machine.{Machine}
-use Rattle.rules.proofs.Machine.Insert.{insertAll}
+use Rattle.rules.specs.Replay.{insertAllSorted}
 
 -- the machine at the sortedStart, with these posts
 unfoldable pub sortedStart : Plan → List Event → Machine
-sortedStart p posts = record { waiting = insertAll posts []; states = initial p; log = [] }
+sortedStart p posts = record { waiting = insertAllSorted posts []; states = initial p; log = [] }
 
 -- a sortedStep takes the least waiting event x, the others being ws
 unfoldable pub sortedStep : Plan → Event → List Event → States → List Event → Machine
 sortedStep p x ws st log =
     let o : Outcome = runEvent p (st (x .target)) x in
-    record { waiting = insertAll (o .sends) ws; states = update st (x .target) (o .after); log = log ++ (x ∷ []) }
+    record { waiting = insertAllSorted (o .sends) ws; states = update st (x .target) (o .after); log = log ++ (x ∷ []) }
 
 -- no event before c waits (the waiting events are in order)
 unfoldable pub Idle : ℕ → List Event → Type 0

@@ -9,7 +9,8 @@ use Rattle.line.specs.declared.Event.{Event}
 use Rattle.line.specs.Event.{before}
 use Rattle.line.specs.declared.State.{State}
 use Rattle.rules.specs.Held.{Held, unrun, ran, event, same, delete, place, mark, In}
-use Rattle.line.proofs.Order.{Lt, clash}
+use Rattle.line.specs.Order.{Lt}
+use Rattle.line.proofs.Order.{clash}
 use Rattle.rules.proofs.Replay.Unmark.{Latest}
 use Rattle.rules.proofs.Replay.Mark.{First, mark-this, mark-other, mark-ran}
 use Rattle.rules.proofs.Replay.Delete.{same-lt}

@@ -8,11 +8,11 @@ use native.Mathlib.Omega.{arith}
 use lib.Dec.{eqb}
 use Rattle.line.specs.declared.Event.{Event}
 use Rattle.line.specs.declared.State.{State}
-use Rattle.line.proofs.Order.{Ge, irr}
+use Rattle.line.specs.Order.{Ge}
+use Rattle.line.proofs.Order.{irr, Which, this, other, which}
 use Rattle.rules.specs.Held.{Held, unrun, ran, event, In, none, some, leastUnrun}
-use Rattle.rules.proofs.Update.{Which, this, other, which}
-use Rattle.rules.proofs.Members.{all-in}
-use Rattle.rules.proofs.Replay.Replay.{Sorted}
+use Rattle.line.proofs.Members.{all-in}
+use Rattle.rules.specs.Replay.{InOrder}
 use Rattle.rules.proofs.Replay.Mark as C
 use Rattle.rules.proofs.Replay.Mark.{First}
 
@@ -109,7 +109,7 @@ unrun-first z (unrun y ∷ h) (List·Memᴰ·tail m) = go (which (y .target) (z 
 -- ---- the order
 
 -- no unrun event of the station is before its first
-pub first-lowest : {s : ℕ} {x : Event} {h : List Held} → First s x h → Sorted h → NoneBefore s x h
+pub first-lowest : {s : ℕ} {x : Event} {h : List Held} → First s x h → InOrder h → NoneBefore s x h
 first-lowest {s} {x} (C.here {h = h} e) o = ((λ _. irr x), in-unrun (λ z. z .target ≡ s → Ge z x) h (λ z m _. all-in (λ y. Ge (event y) x) m (o .0)))
 first-lowest (C.past-unrun n f) o = ((λ i. absurd (n i)), first-lowest f (o .1))
 first-lowest (C.past-ran f) o = first-lowest f (o .1)

@@ -6,14 +6,16 @@ use mathlib.Core.List.{List, _∷_}
 use Prim.Native.Nat.{ℕ, _≤_, _<_}
 use lib.Dec.{eqb}
 use Rattle.line.specs.declared.Event.{Event}
-use Rattle.rules.proofs.Machine.Insert.{insertAll, Disjoint, all-all, Uncons, uncons}
-use Rattle.rules.proofs.Update.{Which, this, other, which, update-same, update-at, update-other}
+use Rattle.rules.specs.Replay.{insertAllSorted, EachRun, NoRun, Replay, Above, InOrder}
+use Rattle.rules.proofs.Machine.Insert.{Disjoint, all-all, Uncons, uncons}
+use Rattle.line.proofs.Order.{Which, this, other, which, ge-lt}
+use Rattle.rules.proofs.Update.{update-same, update-at, update-other}
 use Rattle.line.specs.Station.{Plan, InRange, States, update}
 use Rattle.line.specs.declared.State.{State}
 use Rattle.rules.specs.Held.{Held, unrun, ran, mark}
-use Rattle.line.proofs.Order.{Ge, ge-lt}
+use Rattle.line.specs.Order.{Ge}
 use Rattle.line.proofs.All.{all-map}
-use Rattle.rules.proofs.Replay.Replay.{sendsOf, afterOf, AllRun, NoRun, Replay, Above, Sorted, sends-later, sent-grows, disjoint, elsewhere, stays}
+use Rattle.rules.proofs.Replay.Replay.{sendsOf, afterOf, sends-later, sent-grows, disjoint, elsewhere, stays}
 
 -- x is the least unrun event of s
 pub data First (s : ℕ) (x : Event) : List Held → Type 0 where
@@ -41,7 +43,7 @@ pub mark-ran : (s : ℕ) (y : Event) (a b : State) (h : List Held) → mark s b 
 unfolding mark
 mark-ran s y a b h = refl
 
-pub mark-all : (Q : Event → State → Type 0) {s : ℕ} {x : Event} {h : List Held} (b : State) → Q x b → First s x h → AllRun Q h → AllRun Q (mark s b h)
+pub mark-all : (Q : Event → State → Type 0) {s : ℕ} {x : Event} {h : List Held} (b : State) → Q x b → First s x h → EachRun Q h → EachRun Q (mark s b h)
 mark-all Q {s} {x} b q (here {h = h} e) a = rw (mark-this s x b h e) (q, a)
 mark-all Q {s} {x} b q (past-unrun {y = y} {h = h} e f) a = rw (mark-other s y b h e) (mark-all Q b q f a)
 mark-all Q {s} {x} b q (past-ran {y = y} {a = c} {h = h} f) a = rw (mark-ran s y c b h) (a .0, mark-all Q b q f (a .1))
@@ -51,7 +53,7 @@ mark-above z {s} {x} b (here {h = h} e) a = rw (mark-this s x b h e) a
 mark-above z {s} {x} b (past-unrun {y = y} {h = h} e f) a = rw (mark-other s y b h e) (a .0, mark-above z b f (a .1))
 mark-above z {s} {x} b (past-ran {y = y} {a = c} {h = h} f) a = rw (mark-ran s y c b h) (a .0, mark-above z b f (a .1))
 
-pub mark-sorted : {s : ℕ} {x : Event} {h : List Held} (b : State) → First s x h → Sorted h → Sorted (mark s b h)
+pub mark-sorted : {s : ℕ} {x : Event} {h : List Held} (b : State) → First s x h → InOrder h → InOrder (mark s b h)
 mark-sorted {s} {x} b (here {h = h} e) o = rw (mark-this s x b h e) o
 mark-sorted {s} {x} b (past-unrun {y = y} {h = h} e f) o = rw (mark-other s y b h e) (mark-above y b f (o .0), mark-sorted b f (o .1))
 mark-sorted {s} {x} b (past-ran {y = y} {a = c} {h = h} f) o = rw (mark-ran s y c b h) (mark-above y b f (o .0), mark-sorted b f (o .1))
@@ -71,10 +73,10 @@ module _ (p : Plan) (S : InRange p) where
   first-small s x ws st cur (here e) r = r .2
   first-small s x ws st cur (past-unrun e f) r = first-small s x (r .0) st cur f (r .4)
   first-small s x ws st cur (past-ran {y = y} {a = a} f) r =
-      first-small s x (insertAll (sendsOf p a y) (r .0)) (update st (y .target) (afterOf p a y)) cur f (r .4)
+      first-small s x (insertAllSorted (sendsOf p a y) (r .0)) (update st (y .target) (afterOf p a y)) cur f (r .4)
 
-  pub mark-replay : (s : ℕ) (x : Event) (b : State) {h : List Held} (ws vs : List Event) (st cur : States) → First s x h → Sorted h → b ≡ cur s
-      → insertAll (sendsOf p b x) ws ≡ vs → Replay p vs st cur h
+  pub mark-replay : (s : ℕ) (x : Event) (b : State) {h : List Held} (ws vs : List Event) (st cur : States) → First s x h → InOrder h → b ≡ cur s
+      → insertAllSorted (sendsOf p b x) ws ≡ vs → Replay p vs st cur h
       → Replay p ws st (update cur s (afterOf p b x)) (mark s b h)
   mark-replay s x b ws vs st cur (here {h = h} e) o k w r = rw (mark-this s x b h e) (u .rest, u .whole, r .2, b-is, after)
     where
@@ -87,9 +89,9 @@ module _ (p : Plan) (S : InRange p) where
       v : State
       v = afterOf p b x
 
-      after : Replay p (insertAll (sendsOf p b x) (u .rest)) (update st (x .target) v) (update cur s v) h
+      after : Replay p (insertAllSorted (sendsOf p b x) (u .rest)) (update st (x .target) v) (update cur s v) h
       after =
-          elsewhere p S s (insertAll (sendsOf p b x) (u .rest)) st (update st (x .target) v) cur (update cur s v) h (subst (λ t. NoRun t h) e (r .3))
+          elsewhere p S s (insertAllSorted (sendsOf p b x) (u .rest)) st (update st (x .target) v) cur (update cur s v) h (subst (λ t. NoRun t h) e (r .3))
           (λ t q. sym (update-other st v (λ j. q (j ∙ e)))) (λ t q. sym (update-other cur v q)) (update-same cur s v ∙ sym (update-at st v (sym e)))
           (subst (λ l. Replay p l st cur h) (u .tail) (r .4))
   mark-replay s x b ws vs st cur (past-unrun {y = y} {h = h} e f) o k w r =
@@ -111,21 +113,21 @@ module _ (p : Plan) (S : InRange p) where
         u .whole,
         r .2,
         r .3,
-        mark-replay s x b (insertAll (sendsOf p a y) (u .rest)) (insertAll (sendsOf p a y) (r .0)) st′ cur f (o .1) k
-            (all-all (sendsOf p b x) (sendsOf p a y) (u .rest) apart ∙ ap (insertAll (sendsOf p a y)) (sym (u .tail))) (r .4),
+        mark-replay s x b (insertAllSorted (sendsOf p a y) (u .rest)) (insertAllSorted (sendsOf p a y) (r .0)) st′ cur f (o .1) k
+            (all-all (sendsOf p b x) (sendsOf p a y) (u .rest) apart ∙ ap (insertAllSorted (sendsOf p a y)) (sym (u .tail))) (r .4),
       )
     where
       st′ : States
       st′ = update st (y .target) (afterOf p a y)
 
       small : x .target < p .count
-      small = first-small s x (insertAll (sendsOf p a y) (r .0)) st′ cur f (r .4)
+      small = first-small s x (insertAllSorted (sendsOf p a y) (r .0)) st′ cur f (r .4)
 
       u : Uncons ws y (sendsOf p b x) (r .0)
       u = uncons (sendsOf p b x) y ws (r .0) (w ∙ r .1) (all-map (λ z l. ge-lt (first-held y f (o .0)) l) (sendsOf p b x) (sends-later p S b x small))
 
       bound : st′ s .sent ≤ cur s .sent
-      bound = sent-grows p S (insertAll (sendsOf p a y) (r .0)) st′ cur h (r .4) s
+      bound = sent-grows p S (insertAllSorted (sendsOf p a y) (r .0)) st′ cur h (r .4) s
 
       apart : Disjoint (sendsOf p b x) (sendsOf p a y)
       apart = disjoint p S y x a b (r .2) small (λ q. rw (update-at st (afterOf p a y) (sym (first-target f) ∙ sym q), ← k) at bound)

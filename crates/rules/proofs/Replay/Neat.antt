@@ -10,38 +10,34 @@ use Rattle.line.specs.declared.Event.{Event}
 use Rattle.line.specs.declared.State.{State}
 use Rattle.line.specs.Event.{before}
 use Rattle.line.specs.Station.{Plan}
-use Rattle.line.proofs.Order.{Lt, Ge, Cmp, less, notLess, cmp, tr, co, irr, asym, clash, Differ, fst, snd}
-use Rattle.line.proofs.All.{All, all-map}
+use Rattle.line.specs.Order.{Lt, Ge, Differ, fst, snd, All}
+use Rattle.line.proofs.Order.{Cmp, less, notLess, cmp, tr, co, irr, asym, clash}
+use Rattle.line.proofs.All.{all-map}
 use Rattle.rules.specs.Held.{Held, unrun, ran, event, In, same, unmark, delete, place, mark}
 use Rattle.rules.specs.Undo.{NoneLater}
-use Rattle.rules.proofs.Members.{all-in}
-use Rattle.rules.proofs.Replay.Replay.{AllRun, NoRun, Clear}
+use Rattle.line.proofs.Members.{all-in}
+use Rattle.rules.specs.Replay.{EachRun, NoRun, Clear, Blocked, Strict, Neat}
 use Rattle.rules.proofs.Replay.Unmark as U
 use Rattle.rules.proofs.Replay.Unmark.{Latest, clear-norun}
 use Rattle.rules.proofs.Replay.Mark as C
 use Rattle.rules.proofs.Replay.Delete.{same-self, same-lt, delete-all}
 use Rattle.rules.proofs.Replay.Place.{place-all}
 use Rattle.rules.proofs.Replay.Mark.{First, first-target, mark-this, mark-other, mark-ran, mark-all}
-use Rattle.rules.proofs.Undo.Cascade.{Blocked}
 
 -- ---- members
 
-pub in-run : (Q : Event → State → Type 0) (h : List Held) → ((z : Event) (a : State) → In (ran z a) h → Q z a) → AllRun Q h
+pub in-run : (Q : Event → State → Type 0) (h : List Held) → ((z : Event) (a : State) → In (ran z a) h → Q z a) → EachRun Q h
 in-run Q [] f = tt
 in-run Q (unrun x ∷ h) f = in-run Q h (λ z a m. f z a (List·Memᴰ·tail m))
 in-run Q (ran x b ∷ h) f = (f x b (List·Memᴰ·head refl), in-run Q h (λ z a m. f z a (List·Memᴰ·tail m)))
 
-pub run-in : (Q : Event → State → Type 0) (z : Event) (a : State) (h : List Held) → In (ran z a) h → AllRun Q h → Q z a
+pub run-in : (Q : Event → State → Type 0) (z : Event) (a : State) (h : List Held) → In (ran z a) h → EachRun Q h → Q z a
 run-in Q z a (unrun x ∷ h) (List·Memᴰ·head e) q = let k : _≡_ {A = ℕ} 0 1 = cc in absurd (omega arith)
 run-in Q z a (unrun x ∷ h) (List·Memᴰ·tail m) q = run-in Q z a h m q
 run-in Q z a (ran x b ∷ h) (List·Memᴰ·head e) q = let k : z ≡ x = cc in let l : a ≡ b = cc in rw (k, l) (q .0)
 run-in Q z a (ran x b ∷ h) (List·Memᴰ·tail m) q = run-in Q z a h m (q .1)
 
 -- ---- strict order
-
-abbrev pub Strict : List Held → Type 0
-Strict [] = Unit {0}
-Strict (y ∷ h) = All (λ z. Lt (event y) (event z)) h × Strict h
 
 -- what holds of every event still does
 pub unmark-each : (P : Event → Type 0) (x : Event) (h : List Held) → All (λ z. P (event z)) h → All (λ z. P (event z)) (unmark x h)
@@ -110,17 +106,17 @@ one-state x a b (y ∷ h) o (List·Memᴰ·tail k) (List·Memᴰ·tail m) = one-
 
 -- ---- nothing run after an unrun event
 
-pub unmark-run : (Q : Event → State → Type 0) (x : Event) (h : List Held) → AllRun Q h → AllRun Q (unmark x h)
+pub unmark-run : (Q : Event → State → Type 0) (x : Event) (h : List Held) → EachRun Q h → EachRun Q (unmark x h)
 unfolding unmark
 unmark-run Q x [] a = tt
 unmark-run Q x (unrun y ∷ h) a = go (same y x) (unmark-run Q x h a)
   where
-    go : (v : Bool) → AllRun Q (unmark x h) → AllRun Q (cond v (unrun y ∷ h) (unrun y ∷ unmark x h))
+    go : (v : Bool) → EachRun Q (unmark x h) → EachRun Q (cond v (unrun y ∷ h) (unrun y ∷ unmark x h))
     go true i = a
     go false i = i
 unmark-run Q x (ran y b ∷ h) a = go (same y x) (unmark-run Q x h (a .1))
   where
-    go : (v : Bool) → AllRun Q (unmark x h) → AllRun Q (cond v (unrun y ∷ h) (ran y b ∷ unmark x h))
+    go : (v : Bool) → EachRun Q (unmark x h) → EachRun Q (cond v (unrun y ∷ h) (ran y b ∷ unmark x h))
     go true i = a .1
     go false i = (a .0, i)
 
@@ -183,11 +179,6 @@ place-blocked x (ran y b ∷ h) o c k = go (cmp y x) (place-blocked x h (o .1) (
     go (notLess l) i = rw (l .is) (clear-norun (x .target) x (ran y b ∷ h) c (l, all-map (λ z j. co (asym j) l) h (o .0)), k)
 
 -- ---- all of it
-
-pub record Neat (p : Plan) (h : List Held) : Type 0 where
-  pub strict : Strict h
-  pub blocked : Blocked h
-  pub inside : All (λ z. event z .target < p .count) h
 
 pub unmark-neat : (p : Plan) (x : Event) (b : State) (h : List Held) → In (ran x b) h → NoneLater x h → Neat p h → Neat p (unmark x h)
 unmark-neat p x b h m n k = record { strict = unmark-strict x h (k .strict); blocked = unmark-blocked x b h (k .strict) (k .blocked) m n; inside = unmark-each (λ z. z .target < p .count) x h (k .inside) }

@@ -7,9 +7,8 @@ use Prim.Native.Nat.{ℕ}
 use Rattle.line.specs.declared.Event.{Event}
 use Rattle.line.specs.declared.State.{State}
 use Rattle.line.specs.Event.{before}
-use Rattle.line.proofs.Order.{differ-target}
+use Rattle.line.proofs.Order.{differ-target, Which, this, other, which}
 use Rattle.rules.specs.Held.{Held, unrun, ran, event, same, unmark, delete, place, mark, leastUnrun, registered}
-use Rattle.rules.proofs.Update.{Which, this, other, which}
 use Rattle.rules.proofs.Replay.LeastUnrun.{least-other, least-ran, least-past, least-both}
 use Rattle.rules.proofs.Replay.Registered.{registered-as, differ-same}
 

@@ -8,15 +8,15 @@ use native.Mathlib.Omega.{arith}
 use Rattle.line.specs.declared.Event.{Event}
 use Rattle.line.specs.declared.State.{State}
 use Rattle.line.specs.Event.{before}
-use Rattle.line.proofs.Order.{Lt, Ge, clash, asym, later-time, Differ, fst, snd}
+use Rattle.line.specs.Order.{Lt, Ge, Differ, fst, snd}
+use Rattle.line.proofs.Order.{clash, asym, later-time}
 use Rattle.rules.specs.Held.{Held, unrun, ran, event, In, same, unmark, Found, none, some, leastUnrun, absent, at, timeOf, registered}
-use Rattle.rules.proofs.Members.{all-in}
-use Rattle.rules.proofs.Replay.Replay.{Sorted}
+use Rattle.line.proofs.Members.{all-in}
+use Rattle.rules.specs.Replay.{InOrder, Blocked, Strict}
 use Rattle.rules.proofs.Replay.Delete.{same-self}
 use Rattle.rules.proofs.Replay.Mark as C
 use Rattle.rules.proofs.Replay.Mark.{First}
-use Rattle.rules.proofs.Undo.Cascade.{Blocked}
-use Rattle.rules.proofs.Replay.Neat.{run-in, Strict, unmark-past}
+use Rattle.rules.proofs.Replay.Neat.{run-in, unmark-past}
 use Rattle.rules.proofs.Calls.Invariant.{least-first}
 use Rattle.rules.proofs.Replay.LeastUnrun.{NoUnrun, NoneBefore, in-unrun, unrun-in, least-none, first-least, first-lowest, unrun-first}
 
@@ -47,7 +47,7 @@ registered-first s h t e = go (leastUnrun s h) refl e
     go (some x) k f = (x, least-first s h x k, (cc))
 
 -- the station of an unrun event is registered, and not later than the event
-pub unrun-registered : (z : Event) (h : List Held) → Sorted h → In (unrun z) h → (t : ℕ) × (registered h (z .target) ≡ at t) × (t ≤ z .time)
+pub unrun-registered : (z : Event) (h : List Held) → InOrder h → In (unrun z) h → (t : ℕ) × (registered h (z .target) ≡ at t) × (t ≤ z .time)
 unrun-registered z h o m =
     let r = unrun-first z h m in
     (r .0 .time, first-registered (r .1), later-time (unrun-in (λ y. y .target ≡ z .target → Ge y (r .0)) z h m (first-lowest (r .1) o) refl))

@@ -9,13 +9,15 @@ use Prim.Native.Nat.{ℕ, _≤_, _<_}
 use native.Mathlib.Nat.{le-refl, le-trans}
 use native.Mathlib.Omega.{arith}
 use Rattle.line.specs.declared.Event.{Event}
-use Rattle.rules.proofs.Machine.Insert.{insertAll, Disjoint}
-use Rattle.rules.proofs.Update.{Which, this, other, which, update-at, update-other}
+use Rattle.rules.specs.Replay.{insertAllSorted, EachRun, NoRun, Replay, Clear, Fresh}
+use Rattle.rules.proofs.Machine.Insert.{Disjoint}
+use Rattle.line.proofs.Order.{Which, this, other, which, differ-number, differ-source, earlier}
+use Rattle.rules.proofs.Update.{update-at, update-other}
 use Rattle.line.specs.Station.{Plan, InRange, States, update, runEvent}
 use Rattle.line.specs.declared.State.{State}
 use Rattle.rules.specs.Held.{Held, unrun, ran, event}
-use Rattle.line.proofs.Order.{Lt, Ge, Differ, differ-number, differ-source, earlier}
-use Rattle.line.proofs.All.{All, all-map}
+use Rattle.line.specs.Order.{Lt, Ge, Differ, All}
+use Rattle.line.proofs.All.{all-map}
 use Rattle.line.proofs.Sends.{Sent, Good, event-good, grows as sent-rises}
 
 abbrev pub sendsOf : Plan → State → Event → List Event
@@ -23,39 +25,6 @@ sendsOf p b x = runEvent p b x .sends
 
 abbrev pub afterOf : Plan → State → Event → State
 afterOf p b x = runEvent p b x .after
-
--- Q holds of every run event with the state before it
-abbrev pub AllRun : (Event → State → Type 0) → List Held → Type 0
-AllRun Q [] = Unit {0}
-AllRun Q (unrun x ∷ h) = AllRun Q h
-AllRun Q (ran x b ∷ h) = Q x b × AllRun Q h
-
--- no event of station s is run
-abbrev pub NoRun : ℕ → List Held → Type 0
-NoRun s h = AllRun (λ x b. x .target ≢ s) h
-
-abbrev pub Replay : Plan → List Event → States → States → List Held → Type 0
-Replay p ws st cur [] = (ws ≡ []) × ((s : ℕ) → cur s ≡ st s)
-Replay p ws st cur (unrun x ∷ h) = (vs : List Event) × (ws ≡ x ∷ vs) × (x .target < p .count) × NoRun (x .target) h × Replay p vs st cur h
-Replay p ws st cur (ran x b ∷ h) =
-    (vs : List Event) × (ws ≡ x ∷ vs) × (x .target < p .count) × (b ≡ st (x .target))
-    × Replay p (insertAll (sendsOf p b x) vs) (update st (x .target) (afterOf p b x)) cur h
-
--- the held events are in order
-abbrev pub Above : Event → List Held → Type 0
-Above x h = All (λ y. Ge (event y) x) h
-
-abbrev pub Sorted : List Held → Type 0
-Sorted [] = Unit {0}
-Sorted (y ∷ h) = Above (event y) h × Sorted h
-
--- no run event of station s is at or after x
-abbrev pub Clear : ℕ → Event → List Held → Type 0
-Clear s x h = AllRun (λ y b. y .target ≡ s → Lt y x) h
-
--- x differs from every send of a run event
-abbrev pub Fresh : Plan → Event → List Held → Type 0
-Fresh p x h = AllRun (λ y b. All (Differ x) (sendsOf p b y)) h
 
 module _ (p : Plan) (S : InRange p) where
   good : (b : State) (x : Event) → x .target < p .count → Good (p .count) (x .target) (x .time) (b .sent) (runEvent p b x)
@@ -78,7 +47,7 @@ module _ (p : Plan) (S : InRange p) where
   sent-grows ws st cur [] r s = rw (r .1 s) (le-refl _)
   sent-grows ws st cur (unrun x ∷ h) r s = sent-grows (r .0) st cur h (r .4) s
   sent-grows ws st cur (ran x b ∷ h) r s =
-      le-trans (grows st b x (r .2) (r .3) s) (sent-grows (insertAll (sendsOf p b x) (r .0)) (update st (x .target) (afterOf p b x)) cur h (r .4) s)
+      le-trans (grows st b x (r .2) (r .3) s) (sent-grows (insertAllSorted (sendsOf p b x) (r .0)) (update st (x .target) (afterOf p b x)) cur h (r .4) s)
 
   -- an event whose source is no station, or whose number its source has not reached, differs from every send of a run event
   fresh-one : (y x : Event) (b : State) → x .target < p .count → (x .target ≡ y .source → afterOf p b x .sent ≤ y .number) → All (Differ y) (sendsOf p b x)
@@ -96,10 +65,10 @@ module _ (p : Plan) (S : InRange p) where
   fresh-above y ws st cur [] r k = tt
   fresh-above y ws st cur (unrun x ∷ h) r k = fresh-above y (r .0) st cur h (r .4) k
   fresh-above y ws st cur (ran x b ∷ h) r k =
-      (fresh-one y x b (r .2) bound, fresh-above y (insertAll (sendsOf p b x) (r .0)) (update st (x .target) (afterOf p b x)) cur h (r .4) k)
+      (fresh-one y x b (r .2) bound, fresh-above y (insertAllSorted (sendsOf p b x) (r .0)) (update st (x .target) (afterOf p b x)) cur h (r .4) k)
     where
       up : update st (x .target) (afterOf p b x) (y .source) .sent ≤ cur (y .source) .sent
-      up = sent-grows (insertAll (sendsOf p b x) (r .0)) (update st (x .target) (afterOf p b x)) cur h (r .4) (y .source)
+      up = sent-grows (insertAllSorted (sendsOf p b x) (r .0)) (update st (x .target) (afterOf p b x)) cur h (r .4) (y .source)
 
       bound : x .target ≡ y .source → afterOf p b x .sent ≤ y .number
       bound e = le-trans (rw (update-at st {s = x .target} {t = y .source} (afterOf p b x) (sym e)) at up) (k (subst (λ t. t < p .count) e (r .2)))
@@ -127,7 +96,7 @@ module _ (p : Plan) (S : InRange p) where
     r .1,
     r .2,
     r .3 ∙ f (x .target) (q .0),
-    elsewhere s (insertAll (sendsOf p b x) (r .0)) (update st (x .target) (afterOf p b x)) (update st′ (x .target) (afterOf p b x)) cur cur′ h (q .1) f′ g e′ (r .4),
+    elsewhere s (insertAllSorted (sendsOf p b x) (r .0)) (update st (x .target) (afterOf p b x)) (update st′ (x .target) (afterOf p b x)) cur cur′ h (q .1) f′ g e′ (r .4),
   )
     where
       v : State
@@ -148,4 +117,4 @@ module _ (p : Plan) (S : InRange p) where
   stays s ws st cur [] q r = r .1 s
   stays s ws st cur (unrun x ∷ h) q r = stays s (r .0) st cur h q (r .4)
   stays s ws st cur (ran x b ∷ h) q r =
-      stays s (insertAll (sendsOf p b x) (r .0)) (update st (x .target) (afterOf p b x)) cur h (q .1) (r .4) ∙ update-other st (afterOf p b x) (λ j. q .0 (sym j))
+      stays s (insertAllSorted (sendsOf p b x) (r .0)) (update st (x .target) (afterOf p b x)) cur h (q .1) (r .4) ∙ update-other st (afterOf p b x) (λ j. q .0 (sym j))

@@ -9,9 +9,10 @@ use Rattle.line.specs.declared.Event.{Event}
 use Rattle.line.specs.Event.{before}
 use Rattle.line.specs.declared.State.{State}
 use Rattle.rules.specs.Held.{Held, unrun, ran, same, isRun, undone, unmark, delete, place, mark}
-use Rattle.rules.proofs.Undo.Functions.{runs}
-use Rattle.line.proofs.Order.{irr, Differ, fst, snd}
-use Rattle.line.proofs.All.{All, all-map, Distinct}
+use Rattle.rules.specs.Executable.{runs}
+use Rattle.line.proofs.Order.{irr}
+use Rattle.line.specs.Order.{Differ, fst, snd, All}
+use Rattle.line.proofs.All.{all-map, Distinct}
 use Rattle.rules.proofs.Replay.Unmark.{Latest}
 use Rattle.rules.proofs.Replay.Mark.{First, mark-this, mark-other, mark-ran}
 use Rattle.rules.proofs.Replay.Unmark as U

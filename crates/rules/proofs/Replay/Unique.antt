@@ -7,33 +7,35 @@ use native.Mathlib.Nat.{le-trans}
 use native.Mathlib.Omega.{arith}
 use Rattle.line.specs.declared.Event.{Event}
 use Rattle.line.specs.Event.{before}
-use Rattle.rules.proofs.Machine.Insert.{insert, insertAll, Disjoint}
-use Rattle.rules.proofs.Update.{Which, this, other, which, update-at}
+use Rattle.rules.specs.Replay.{insertSorted, insertAllSorted, Replay, Above, InOrder}
+use Rattle.rules.proofs.Machine.Insert.{Disjoint}
+use Rattle.line.proofs.Order.{Which, this, other, which, ge-lt, differ-sym, differ-number, differ-source}
+use Rattle.rules.proofs.Update.{update-at}
 use Rattle.line.specs.Station.{Plan, InRange, States, update, runEvent}
 use Rattle.line.specs.declared.State.{State}
 use Rattle.rules.specs.Machine.{Machine}
 use Rattle.rules.proofs.Machine.Sorted.{sortedStep, SortedRuns, rest, goOn}
 use Rattle.rules.specs.Held.{Held, unrun, ran, event}
-use Rattle.line.proofs.Order.{ge-lt, Differ, fst, differ-sym, differ-number, differ-source}
-use Rattle.line.proofs.All.{All, all-map, Distinct}
+use Rattle.line.specs.Order.{Differ, fst, All}
+use Rattle.line.proofs.All.{all-map, Distinct}
 use Rattle.line.proofs.Sends.{Sent, Good, event-good}
-use Rattle.rules.proofs.Replay.Replay.{sendsOf, afterOf, Replay, Above, Sorted, sends-later, grows, sent-grows}
+use Rattle.rules.proofs.Replay.Replay.{sendsOf, afterOf, sends-later, grows, sent-grows}
 use Rattle.rules.proofs.Machine.Feed.{all-insert, all-insertAll, Inside}
 
-distinct-insert : (x : Event) (ws : List Event) → All (Differ x) ws → Distinct ws → Distinct (insert x ws)
-unfolding insert
+distinct-insert : (x : Event) (ws : List Event) → All (Differ x) ws → Distinct ws → Distinct (insertSorted x ws)
+unfolding insertSorted
 distinct-insert x [] a d = (tt, tt)
 distinct-insert x (w ∷ ws) a d = go (before w x) (distinct-insert x ws (a .1) (d .1)) (all-insert (Differ w) x ws (differ-sym (a .0)) (d .0))
   where
-    go : (v : Bool) → Distinct (insert x ws) → All (Differ w) (insert x ws) → Distinct (cond v (w ∷ insert x ws) (x ∷ w ∷ ws))
+    go : (v : Bool) → Distinct (insertSorted x ws) → All (Differ w) (insertSorted x ws) → Distinct (cond v (w ∷ insertSorted x ws) (x ∷ w ∷ ws))
     go true i j = (j, i)
     go false i j = (a, d)
 
-pub distinct-insertAll : (xs ws : List Event) → Distinct xs → Disjoint xs ws → Distinct ws → Distinct (insertAll xs ws)
-unfolding insertAll
+pub distinct-insertAll : (xs ws : List Event) → Distinct xs → Disjoint xs ws → Distinct ws → Distinct (insertAllSorted xs ws)
+unfolding insertAllSorted
 distinct-insertAll [] ws e a d = d
 distinct-insertAll (x ∷ xs) ws e a d =
-    distinct-insert x (insertAll xs ws) (all-insertAll (Differ x) xs ws (e .0) (a .0)) (distinct-insertAll xs ws (e .1) (a .1) d)
+    distinct-insert x (insertAllSorted xs ws) (all-insertAll (Differ x) xs ws (e .0) (a .0)) (distinct-insertAll xs ws (e .1) (a .1) d)
 
 -- no two entries have one key
 abbrev pub Unique : List Held → Type 0
@@ -49,7 +51,7 @@ module _ (p : Plan) (S : InRange p) where
     pub distinct : Distinct ws
     pub low : All (Low st) ws
 
-  pub keyed-insertAll : (xs ws : List Event) (st : States) → Keyed xs st → Keyed ws st → Disjoint xs ws → Keyed (insertAll xs ws) st
+  pub keyed-insertAll : (xs ws : List Event) (st : States) → Keyed xs st → Keyed ws st → Disjoint xs ws → Keyed (insertAllSorted xs ws) st
   keyed-insertAll xs ws st k l d = record { distinct = distinct-insertAll xs ws (k .distinct) d (l .distinct); low = all-insertAll (Low st) xs ws (k .low) (l .low) }
 
   -- the sends of an event, and the events that wait on: they have different keys
@@ -86,7 +88,7 @@ module _ (p : Plan) (S : InRange p) where
       apart = all-map (λ z w. all-map (λ y l. one z y w l) vs (k .low)) xs (g .each)
 
   step-keyed : (x : Event) (vs : List Event) (st : States) (b : State) → x .target < p .count → b ≡ st (x .target) → Distinct vs → All (Low st) vs
-      → Keyed (insertAll (sendsOf p b x) vs) (update st (x .target) (afterOf p b x))
+      → Keyed (insertAllSorted (sendsOf p b x) vs) (update st (x .target) (afterOf p b x))
   step-keyed x vs st b h e d l =
       let k = step-parts x vs st b h e (record { distinct = d; low = l }) in
       keyed-insertAll (sendsOf p b x) vs (update st (x .target) (afterOf p b x)) (k .0) (k .1) (k .2)
@@ -99,11 +101,11 @@ module _ (p : Plan) (S : InRange p) where
   differs x ws st cur (ran y c ∷ h) a o r =
       let b : All (Differ x) (y ∷ r .0) = rw (r .1) at a in (
         b .0,
-        differs x (insertAll (sendsOf p c y) (r .0)) (update st (y .target) (afterOf p c y)) cur h
+        differs x (insertAllSorted (sendsOf p c y) (r .0)) (update st (y .target) (afterOf p c y)) cur h
             (all-insertAll (Differ x) (sendsOf p c y) (r .0) (all-map (λ z l. fst (ge-lt (o .0) l)) (sendsOf p c y) (sends-later p S c y (r .2))) (b .1)) (o .1) (r .4),
       )
 
-  pub replay-unique : (ws : List Event) (st cur : States) (h : List Held) → Keyed ws st → Sorted h → Replay p ws st cur h → Unique h
+  pub replay-unique : (ws : List Event) (st cur : States) (h : List Held) → Keyed ws st → InOrder h → Replay p ws st cur h → Unique h
   replay-unique ws st cur [] k o r = tt
   replay-unique ws st cur (unrun x ∷ h) k o r =
       let d : Distinct (x ∷ r .0) = rw (r .1) at (k .distinct) in
@@ -112,7 +114,7 @@ module _ (p : Plan) (S : InRange p) where
   replay-unique ws st cur (ran x b ∷ h) k o r =
       let d : Distinct (x ∷ r .0) = rw (r .1) at (k .distinct) in
       let l : All (Low st) (x ∷ r .0) = rw (r .1) at (k .low) in
-      let ws′ : List Event = insertAll (sendsOf p b x) (r .0) in
+      let ws′ : List Event = insertAllSorted (sendsOf p b x) (r .0) in
       let st′ : States = update st (x .target) (afterOf p b x) in (
         differs x ws′ st′ cur h (all-insertAll (Differ x) (sendsOf p b x) (r .0) (all-map (λ z m. fst m) (sendsOf p b x) (sends-later p S b x (r .2))) (d .0)) (o .0) (r .4),
         replay-unique ws′ st′ cur h (step-keyed x (r .0) st b (r .2) (r .3) (d .1) (l .1)) (o .1) (r .4),
@@ -128,7 +130,7 @@ module _ (p : Plan) (S : InRange p) where
   replay-low ws st cur (ran x b ∷ h) k r =
       let d : Distinct (x ∷ r .0) = rw (r .1) at (k .distinct) in
       let l : All (Low st) (x ∷ r .0) = rw (r .1) at (k .low) in
-      let ws′ : List Event = insertAll (sendsOf p b x) (r .0) in
+      let ws′ : List Event = insertAllSorted (sendsOf p b x) (r .0) in
       let st′ : States = update st (x .target) (afterOf p b x) in
       ((λ i. le-trans (l .0 i) (le-trans (grows p S st b x (r .2) (r .3) (x .source)) (sent-grows p S ws′ st′ cur h (r .4) (x .source)))), replay-low ws′ st′ cur h (step-keyed x (r .0) st b (r .2) (r .3) (d .1) (l .1)) (r .4))
 

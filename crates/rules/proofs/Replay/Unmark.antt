@@ -8,15 +8,17 @@ use native.Mathlib.Nat.{le-refl, le-trans}
 use lib.Dec.{eqb}
 use Rattle.line.specs.declared.Event.{Event}
 use Rattle.line.specs.Event.{before}
-use Rattle.rules.proofs.Machine.Insert.{insertAll, Disjoint, all-all, all-head}
-use Rattle.rules.proofs.Update.{Which, this, other, which, update-same, update-at, update-other}
+use Rattle.rules.specs.Replay.{insertAllSorted, EachRun, NoRun, Replay, Above, InOrder, Clear}
+use Rattle.rules.proofs.Machine.Insert.{Disjoint, all-all, all-head}
+use Rattle.line.proofs.Order.{Which, this, other, which, Cmp, less, notLess, cmp, co, clash, ge-lt}
+use Rattle.rules.proofs.Update.{update-same, update-at, update-other}
 use Rattle.line.specs.Station.{Plan, InRange, States, update}
 use Rattle.line.specs.declared.State.{State}
 use Rattle.rules.specs.Held.{Held, unrun, ran}
-use Rattle.rules.proofs.Undo.Functions.{Search, nothing, found, beyond, orThis, latest, runs}
-use Rattle.line.proofs.Order.{Lt, Ge, Cmp, less, notLess, cmp, co, clash, ge-lt}
-use Rattle.line.proofs.All.{All, all-map}
-use Rattle.rules.proofs.Replay.Replay.{sendsOf, afterOf, AllRun, NoRun, Replay, Above, Sorted, Clear, sends-later, grows, disjoint, elsewhere}
+use Rattle.rules.specs.Executable.{Search, nothing, found, beyond, orThis, latest, runs}
+use Rattle.line.specs.Order.{Lt, Ge, All}
+use Rattle.line.proofs.All.{all-map}
+use Rattle.rules.proofs.Replay.Replay.{sendsOf, afterOf, sends-later, grows, disjoint, elsewhere}
 
 -- ---- `latest`, seen as a relation: e, run from b, is the latest run event of s at or after x, and h′ is h with e unrun
 
@@ -57,13 +59,13 @@ found-above z (here t g c) a = a
 found-above z (past-unrun f) a = (a .0, found-above z f (a .1))
 found-above z (past-ran f) a = (a .0, found-above z f (a .1))
 
-pub found-sorted : {s : ℕ} {x e : Event} {b : State} {h h′ : List Held} → Latest s x e b h h′ → Sorted h → Sorted h′
+pub found-sorted : {s : ℕ} {x e : Event} {b : State} {h h′ : List Held} → Latest s x e b h h′ → InOrder h → InOrder h′
 found-sorted (here t g c) o = o
 found-sorted (past-unrun {y = y} f) o = (found-above y f (o .0), found-sorted f (o .1))
 found-sorted (past-ran {y = y} f) o = (found-above y f (o .0), found-sorted f (o .1))
 
 -- what holds of every run event still does
-pub found-all : {s : ℕ} {x e : Event} {b : State} {h h′ : List Held} (Q : Event → State → Type 0) → Latest s x e b h h′ → AllRun Q h → AllRun Q h′
+pub found-all : {s : ℕ} {x e : Event} {b : State} {h h′ : List Held} (Q : Event → State → Type 0) → Latest s x e b h h′ → EachRun Q h → EachRun Q h′
 found-all Q (here q g c) n = n .1
 found-all Q (past-unrun f) n = found-all Q f n
 found-all Q (past-ran f) n = (n .0, found-all Q f (n .1))
@@ -105,33 +107,33 @@ module _ (p : Plan) (S : InRange p) where
   found-small s x e b ws st cur (here q g c) r = r .2
   found-small s x e b ws st cur (past-unrun f) r = found-small s x e b (r .0) st cur f (r .4)
   found-small s x e b ws st cur (past-ran {y = y} {a = a} f) r =
-      found-small s x e b (insertAll (sendsOf p a y) (r .0)) (update st (y .target) (afterOf p a y)) cur f (r .4)
+      found-small s x e b (insertAllSorted (sendsOf p a y) (r .0)) (update st (y .target) (afterOf p a y)) cur f (r .4)
 
   pub found-sent : (s : ℕ) (x e : Event) (b : State) {h h′ : List Held} (ws : List Event) (st cur : States) → Latest s x e b h h′
       → Replay p ws st cur h → st s .sent ≤ b .sent
   found-sent s x e b ws st cur (here q g c) r = rw (r .3, q) (le-refl _)
   found-sent s x e b ws st cur (past-unrun f) r = found-sent s x e b (r .0) st cur f (r .4)
   found-sent s x e b ws st cur (past-ran {y = y} {a = a} f) r =
-      le-trans (grows p S st a y (r .2) (r .3) s) (found-sent s x e b (insertAll (sendsOf p a y) (r .0)) (update st (y .target) (afterOf p a y)) cur f (r .4))
+      le-trans (grows p S st a y (r .2) (r .3) s) (found-sent s x e b (insertAllSorted (sendsOf p a y) (r .0)) (update st (y .target) (afterOf p a y)) cur f (r .4))
 
   -- a run event becomes unrun
-  pub undo-replay : (s : ℕ) (x e : Event) (b : State) {h h′ : List Held} (ws : List Event) (st cur : States) → Latest s x e b h h′ → Sorted h
+  pub undo-replay : (s : ℕ) (x e : Event) (b : State) {h h′ : List Held} (ws : List Event) (st cur : States) → Latest s x e b h h′ → InOrder h
       → Replay p ws st cur h
-      → Replay p (insertAll (sendsOf p b e) ws) st (update cur s b) h′
+      → Replay p (insertAllSorted (sendsOf p b e) ws) st (update cur s b) h′
   undo-replay s x e b ws st cur (here {h = h} q g c) o r = (
-    insertAll (sendsOf p b e) (r .0),
-    ap (insertAll (sendsOf p b e)) (r .1) ∙ all-head e (sendsOf p b e) (r .0) (sends-later p S b e (r .2)),
+    insertAllSorted (sendsOf p b e) (r .0),
+    ap (insertAllSorted (sendsOf p b e)) (r .1) ∙ all-head e (sendsOf p b e) (r .0) (sends-later p S b e (r .2)),
     r .2,
     none-left,
-    elsewhere p S s (insertAll (sendsOf p b e) (r .0)) (update st (e .target) (afterOf p b e)) st cur (update cur s b) h (subst (λ t. NoRun t h) q none-left)
+    elsewhere p S s (insertAllSorted (sendsOf p b e) (r .0)) (update st (e .target) (afterOf p b e)) st cur (update cur s b) h (subst (λ t. NoRun t h) q none-left)
         (λ t k. update-other st (afterOf p b e) (λ j. k (j ∙ q))) (λ t k. sym (update-other cur b k)) (update-same cur s b ∙ r .3 ∙ ap st q) (r .4),
   )
     where
       none-left : NoRun (e .target) h
       none-left = rw q (clear-norun s x h c (above-trans h g (o .0)))
   undo-replay s x e b ws st cur (past-unrun {y = y} {h = h} f) o r = (
-    insertAll (sendsOf p b e) (r .0),
-    ap (insertAll (sendsOf p b e)) (r .1) ∙ all-head y (sendsOf p b e) (r .0) later,
+    insertAllSorted (sendsOf p b e) (r .0),
+    ap (insertAllSorted (sendsOf p b e)) (r .1) ∙ all-head y (sendsOf p b e) (r .0) later,
     r .2,
     found-all (λ x b. x .target ≢ y .target) f (r .3),
     undo-replay s x e b (r .0) st cur f (o .1) (r .4),
@@ -143,25 +145,25 @@ module _ (p : Plan) (S : InRange p) where
       later : All (Lt y) (sendsOf p b e)
       later = all-map (λ z k. ge-lt (found-held y f (o .0)) k) (sendsOf p b e) (sends-later p S b e small)
   undo-replay s x e b ws st cur (past-ran {y = y} {a = a} {h = h} {h′ = h′} f) o r = (
-    insertAll (sendsOf p b e) (r .0),
-    ap (insertAll (sendsOf p b e)) (r .1) ∙ all-head y (sendsOf p b e) (r .0) later,
+    insertAllSorted (sendsOf p b e) (r .0),
+    ap (insertAllSorted (sendsOf p b e)) (r .1) ∙ all-head y (sendsOf p b e) (r .0) later,
     r .2,
     r .3,
     subst (λ l. Replay p l st′ (update cur s b) h′) (all-all (sendsOf p b e) (sendsOf p a y) (r .0) apart)
-        (undo-replay s x e b (insertAll (sendsOf p a y) (r .0)) st′ cur f (o .1) (r .4)),
+        (undo-replay s x e b (insertAllSorted (sendsOf p a y) (r .0)) st′ cur f (o .1) (r .4)),
   )
     where
       st′ : States
       st′ = update st (y .target) (afterOf p a y)
 
       small : e .target < p .count
-      small = found-small s x e b (insertAll (sendsOf p a y) (r .0)) st′ cur f (r .4)
+      small = found-small s x e b (insertAllSorted (sendsOf p a y) (r .0)) st′ cur f (r .4)
 
       later : All (Lt y) (sendsOf p b e)
       later = all-map (λ z k. ge-lt (found-held y f (o .0)) k) (sendsOf p b e) (sends-later p S b e small)
 
       bound : st′ s .sent ≤ b .sent
-      bound = found-sent s x e b (insertAll (sendsOf p a y) (r .0)) st′ cur f (r .4)
+      bound = found-sent s x e b (insertAllSorted (sendsOf p a y) (r .0)) st′ cur f (r .4)
 
       apart : Disjoint (sendsOf p b e) (sendsOf p a y)
       apart = disjoint p S y e a b (r .2) small (λ q. rw (update-at st (afterOf p a y) (sym (found-target f) ∙ sym q)) at bound)

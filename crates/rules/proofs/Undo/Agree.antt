@@ -10,20 +10,20 @@ use Rattle.line.specs.declared.Event.{Event}
 use Rattle.line.specs.declared.State.{State}
 use Rattle.line.specs.Event.{before}
 use Rattle.line.specs.Station.{Plan, update, runEvent}
-use Rattle.line.proofs.Order.{Lt, Differ, differ-sym, asym, irr}
-use Rattle.line.proofs.All.{All, Distinct}
+use Rattle.line.specs.Order.{Lt, Differ, All}
+use Rattle.line.proofs.Order.{differ-sym, asym, irr, Which, this, other, which}
+use Rattle.line.proofs.All.{Distinct}
 use Rattle.rules.specs.Held.{Held, unrun, ran, event, Queue, In, unmark, delete, place}
 use Rattle.rules.specs.Undo.{NoneLater, Action, Undo, UndoLater, Remove, RemoveEach, Add, AddEach, Does, undo, later-none, later-next, remove-run, remove-unrun, add, remove-none, remove-next, add-none, add-next}
-use Rattle.rules.proofs.Undo.Functions as F
-use Rattle.rules.proofs.Undo.Functions.{nothing, found, beyond, orThis, latest, undoFrom, removeAll, undoEvent, addAll}
-use Rattle.rules.proofs.Update.{Which, this, other, which}
-use Rattle.rules.proofs.Replay.Replay.{Clear}
+use Rattle.rules.specs.Executable as F
+use Rattle.rules.specs.Executable.{nothing, found, beyond, orThis, latest, undoFrom, removeAll, undoEvent, addAll}
+use Rattle.rules.specs.Replay.{Clear, Neat}
 use Rattle.rules.proofs.Replay.Unmark as U
 use Rattle.rules.proofs.Replay.Unmark.{Latest}
 use Rattle.rules.proofs.Replay.EntriesKept.{delete-in, place-in}
 use Rattle.rules.proofs.Undo.Fuel.{undo-none, undo-some}
-use Rattle.rules.proofs.Members.{all-in}
-use Rattle.rules.proofs.Replay.Neat.{in-run, one-state, Neat, unmark-each, delete-each, place-each, unmark-run, run-in, unmark-neat, delete-neat, place-neat, is-latest, unrun-clear, unmark-differs, not-later}
+use Rattle.line.proofs.Members.{all-in}
+use Rattle.rules.proofs.Replay.Neat.{in-run, one-state, unmark-each, delete-each, place-each, unmark-run, run-in, unmark-neat, delete-neat, place-neat, is-latest, unrun-clear, unmark-differs, not-later}
 
 -- ---- the search for the latest run event
 
@@ -116,9 +116,9 @@ New x h = All (λ z. Differ x (event z)) h
 abbrev pub Agrees : Plan → Action → Queue → Queue → Type 0
 Agrees p (Undo x) q r = NoneLater x (q .held) → (b : State) → In (ran x b) (q .held) → (r ≡ undoEvent p q (x .target) x b (unmark x (q .held))) × Neat p (r .held)
 Agrees p (UndoLater x) q r = (undoFrom p q (x .target) x ≡ undoFrom p r (x .target) x) × NoneLater x (r .held) × Neat p (r .held)
-Agrees p (Remove x) q r = (r ≡ F.remove p q x) × Neat p (r .held)
+Agrees p (Remove x) q r = (r ≡ F.removing p q x) × Neat p (r .held)
 Agrees p (RemoveEach xs) q r = (r ≡ removeAll p xs q) × Neat p (r .held)
-Agrees p (Add x) q r = x .target < p .count → New x (q .held) → (r ≡ F.add p q x) × Neat p (r .held)
+Agrees p (Add x) q r = x .target < p .count → New x (q .held) → (r ≡ F.adding p q x) × Neat p (r .held)
 Agrees p (AddEach xs) q r = All (λ x. x .target < p .count) xs → All (λ x. New x (q .held)) xs → Distinct xs → (r ≡ addAll p xs q) × Neat p (r .held)
 
 module _ (p : Plan) where
@@ -142,7 +142,7 @@ module _ (p : Plan) where
   put x r = record { states = r .states; held = place x (r .held) }
 
   pub does-agree : {a : Action} {q r : Queue} → Does p a q r → Neat p (q .held) → Agrees p a q r
-  unfolding undoEvent removeAll addAll F.remove F.add cut put
+  unfolding undoEvent removeAll addAll F.removing F.adding cut put
   does-agree (undo {q = q} {r = r} {x = x} {b = c} m d) k = λ n b w.
       let e : c ≡ b = one-state x c b (q .held) (k .strict) m w in
       let i = does-agree d (unmark-neat p x c (q .held) m n k) in

@@ -6,22 +6,22 @@ use Prim.Native.Nat.{ℕ, suc, _+_, _<_}
 use native.Mathlib.Omega.{arith}
 use Rattle.line.specs.declared.Event.{Event}
 use Rattle.line.specs.Station.{Plan, InRange, States}
-use Rattle.line.proofs.Order.{Lt, irr, Differ, fst, snd, differ-target}
-use Rattle.line.proofs.All.{All, all-map, Distinct}
+use Rattle.line.specs.Order.{Lt, Differ, fst, snd, All}
+use Rattle.line.proofs.Order.{irr, differ-target, Which, this, other, which}
+use Rattle.line.proofs.All.{all-map, Distinct}
 use Rattle.rules.specs.Held.{Held, unrun, ran, event, Queue, same, undone, delete}
 use Rattle.rules.specs.Undo.{NoneLater, Action, Undo, UndoLater, Remove, RemoveEach, Add, AddEach, Does, undo, later-none, later-next, remove-run, remove-unrun, add, remove-none, remove-next, add-none, add-next}
-use Rattle.rules.proofs.Undo.Functions.{runs, runLeast}
-use Rattle.rules.proofs.Update.{Which, this, other, which}
-use Rattle.rules.proofs.Replay.Replay.{Clear}
+use Rattle.rules.specs.Executable.{runs, runLeast}
+use Rattle.rules.specs.Replay.{Clear, Replayed, Strict, Neat}
 use Rattle.rules.proofs.Replay.Unmark.{found-runs}
-use Rattle.rules.proofs.Members.{all-in}
+use Rattle.line.proofs.Members.{all-in}
 use Rattle.rules.proofs.Replay.Mark as C
 use Rattle.rules.proofs.Replay.Mark.{First}
 use Rattle.rules.proofs.Replay.Place.{place-runs}
-use Rattle.rules.proofs.Undo.Cascade.{Ok, still-first, sends-added}
+use Rattle.rules.proofs.Undo.Cascade.{still-first, sends-added}
 use Rattle.rules.proofs.Undo.RunFirst.{first-in}
 use Rattle.rules.proofs.Replay.RunsLeft.{ranOnes, Sub, sub-refl, sub-trans, unmark-sub, delete-sub, place-sub, differ-same, undone-rest, undone-mark}
-use Rattle.rules.proofs.Replay.Neat.{Strict, Neat, unmark-neat, is-latest, unrun-clear}
+use Rattle.rules.proofs.Replay.Neat.{unmark-neat, is-latest, unrun-clear}
 use Rattle.rules.proofs.Undo.Agree.{New, undoing, undone-clear, does-agree, still-new}
 
 -- how often an event was undone
@@ -111,7 +111,7 @@ first-differs {x = x} (C.here {h = h} e) o = all-map (λ y l. snd l) (ranOnes h)
 first-differs (C.past-unrun e f) o = first-differs f (o .1)
 first-differs {x = x} (C.past-ran {y = y} f) o = (fst (all-in (λ z. Lt y (event z)) (first-in f) (o .0)), first-differs f (o .1))
 
-pub undone-run : (p : Plan) → InRange p → (ws : List Event) (st : States) (q : Queue) (x : Event) → Ok p ws st q → Strict (q .held)
+pub undone-run : (p : Plan) → InRange p → (ws : List Event) (st : States) (q : Queue) (x : Event) → Replayed p ws st q → Strict (q .held)
     → First (x .target) x (q .held)
     → undone (q .held) (runLeast p q x .held) + runs (runLeast p q x .held) ≡ suc (runs (q .held))
 unfolding runLeast

@@ -1,7 +1,7 @@
 -- The rules of undoing and removing as equations without the bound: what the contracts of code that does so need.
 --     undo-none, undo-some     undoing the run events of s from x on, one at a time, latest first
 --     undo-falls               each undo lowers the number of run events
---     `removeAll`, `remove`, `undoEvent` are these equations' other halves, by definition.
+--     `removeAll`, `removing`, `undoEvent` are these equations' other halves, by definition.
 -- They hold of every queue, and ask for no invariant.
 use mathlib.Core.Path.{_≡_, refl, sym, ap, _∙_, subst}
 use mathlib.Core.List.{List, [], _∷_}
@@ -12,7 +12,7 @@ use Rattle.line.specs.declared.Event.{Event}
 use Rattle.line.specs.Station.{Plan, update, runEvent}
 use Rattle.line.specs.declared.State.{State}
 use Rattle.rules.specs.Held.{Held, Queue, delete}
-use Rattle.rules.proofs.Undo.Functions.{runs, Search, nothing, found, latest, removeEach, undoFound, undoWithin, undoFrom, remove, removeAll, undoEvent}
+use Rattle.rules.specs.Executable.{runs, Search, nothing, found, latest, removeEach, undoFound, undoWithin, undoFrom, removing, removeAll, undoEvent}
 use Rattle.rules.proofs.Replay.Unmark.{View, latest-view, found-runs}
 use Rattle.rules.proofs.Replay.Delete.{delete-runs}
 
@@ -103,7 +103,7 @@ within-enough p (suc n) (suc m) q s x k l =
 
 -- removing each of a list, by any bound that suffices
 pub remove-all : (p : Plan) (n : ℕ) (ys : List Event) (q : Queue) → runs (q .held) ≤ n → removeEach (undoWithin p n) ys q ≡ removeAll p ys q
-unfolding removeEach removeAll remove undoFrom
+unfolding removeEach removeAll removing undoFrom
 remove-all p n [] q l = refl
 remove-all p n (y ∷ ys) q l =
     remove-all p n ys (cut (undoWithin p n q (y .target) y)) (le-trans (delete-runs y (undoWithin p n q (y .target) y .held)) (le-trans (within-falls p n q (y .target) y) l))
@@ -127,7 +127,7 @@ unfolding undoFrom
 from-falls p q s x = within-falls p (runs (q .held)) q s x
 
 pub removeAll-falls : (p : Plan) (ys : List Event) (q : Queue) → runs (removeAll p ys q .held) ≤ runs (q .held)
-unfolding removeAll remove
+unfolding removeAll removing
 removeAll-falls p [] q = le-refl _
 removeAll-falls p (y ∷ ys) q =
     le-trans (removeAll-falls p ys (record { states = undoFrom p q (y .target) y .states; held = delete y (undoFrom p q (y .target) y .held) }))

@@ -9,22 +9,24 @@ use Rattle.line.specs.declared.Event.{Event}
 use Rattle.line.specs.declared.State.{State}
 use Rattle.line.specs.Event.{before}
 use Rattle.line.specs.Station.{Plan, InRange, States, update}
-use Rattle.line.proofs.Order.{Lt, tr, irr, asym, clash, ge-lt}
-use Rattle.line.proofs.All.{All, all-map, Distinct}
+use Rattle.line.specs.Order.{Lt, All}
+use Rattle.line.proofs.Order.{tr, irr, asym, clash, ge-lt, Which, this, other, which}
+use Rattle.line.proofs.All.{all-map, Distinct}
 use Rattle.rules.specs.Held.{Held, unrun, ran, event, Queue, In, same, unmark, delete, place, mark}
 use Rattle.rules.specs.Undo.{NoneLater, Action, Undo, UndoLater, Remove, RemoveEach, Add, AddEach, Does, undo, later-none, later-next, remove-run, remove-unrun, add, remove-none, remove-next, add-none, add-next}
-use Rattle.rules.proofs.Replay.Replay.{Sorted, sends-later, sendsOf}
-use Rattle.rules.proofs.Update.{Which, this, other, which, update-at, update-other}
-use Rattle.rules.proofs.Members.{all-in}
+use Rattle.rules.specs.Replay.{InOrder, Blocked, Strict, Neat}
+use Rattle.rules.proofs.Replay.Replay.{sends-later, sendsOf}
+use Rattle.rules.proofs.Update.{update-at, update-other}
+use Rattle.line.proofs.Members.{all-in}
 use Rattle.rules.proofs.Replay.Mark as C
 use Rattle.rules.proofs.Replay.Mark.{First, first-held, mark-this, mark-other, mark-ran}
 use Rattle.rules.proofs.Replay.Delete.{same-lt}
 use Rattle.rules.proofs.Replay.EntriesKept.{mark-stays}
-use Rattle.rules.proofs.Undo.Cascade.{Blocked, delete-first, place-first}
-use Rattle.rules.proofs.Replay.Neat.{run-in, Strict, Neat, unmark-past, unmark-neat}
+use Rattle.rules.proofs.Undo.Cascade.{delete-first, place-first}
+use Rattle.rules.proofs.Replay.Neat.{run-in, unmark-past, unmark-neat}
 use Rattle.rules.proofs.Undo.Agree.{New, does-agree, still-new}
 
-pub strict-sorted : (h : List Held) → Strict h → Sorted h
+pub strict-sorted : (h : List Held) → Strict h → InOrder h
 strict-sorted [] o = tt
 strict-sorted (y ∷ h) o = (all-map (λ z l. asym l) h (o .0), strict-sorted h (o .1))
 
@@ -108,7 +110,7 @@ delete-mark {s} {x} b y (C.past-ran {y = w} {a = c} {h = h} f) l = rw (mark-ran 
     go true i = refl
     go false i = ap (λ k. ran w c ∷ k) i ∙ sym (mark-ran s w c b (delete y h))
 
-place-mark : {s : ℕ} {x : Event} {h : List Held} (b : State) (y : Event) → First s x h → Sorted h → Lt x y → place y (mark s b h) ≡ mark s b (place y h)
+place-mark : {s : ℕ} {x : Event} {h : List Held} (b : State) (y : Event) → First s x h → InOrder h → Lt x y → place y (mark s b h) ≡ mark s b (place y h)
 unfolding place
 place-mark {s} {x} b y (C.here {h = h} e) o l = rw (mark-this s x b h e, l .is, mark-this s x b (place y h) e)
 place-mark {s} {x} b y (C.past-unrun {y = w} {h = h} e f) o l =
@@ -176,7 +178,7 @@ module _ (p : Plan) (S : InRange p) (s : ℕ) (x : Event) (b v : State) where
   does-on (add {q = q} {r = r} {x = y} d) t k f =
       let g = does-agree p d k in
       let i = does-on d (t .0) k f in
-      let o : Sorted (r .held) = strict-sorted (r .held) (g .2 .strict) in
+      let o : InOrder (r .held) = strict-sorted (r .held) (g .2 .strict) in
       (subst (Does p (Add y) (on q)) (same-queue refl (place-mark b y (i .1) o (t .0))) (add (i .0)), place-first y (i .1) (t .0) o)
   does-on remove-none t k f = (remove-none, f)
   does-on (remove-next d e) t k f =

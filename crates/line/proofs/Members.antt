@@ -1,7 +1,7 @@
 -- What holds of every element of a list: of each member, and of two lists joined.
 use mathlib.Core.Path.{refl, sym, subst}
 use mathlib.Core.List.{List, [], _∷_, _++_, List·Memᴰ, List·Memᴰ·head, List·Memᴰ·tail}
-use Rattle.line.proofs.All.{All}
+use Rattle.line.specs.Order.{All}
 
 pub all-in : {A : Type 0} (P : A → Type 0) {z : A} {h : List A} → List·Memᴰ z h → All P h → P z
 all-in P (List·Memᴰ·head e) a = subst P (sym e) (a .0)

@@ -7,7 +7,7 @@ use lib.ListN.{length, take, length-append}
 use lib.Seq.{take-at}
 use Rattle.words.proofs.Laws.{length-bytes}
 use Rattle.line.specs.declared.Event.{Event}
-use Rattle.rules.specs.Entry.{entry, entries}
+use Rattle.entry.specs.Entry.{entry, entries}
 
 pub entry-length : (x : Event) → length (entry x) ≡ 24
 unfolding entry

@@ -3,9 +3,9 @@ use Prim.Native.Nat.{_+_}
 use Rattle.words.specs.Le.{storeAt}
 use mathlib.Core.Path.{_∙_, ap}
 use borrow.Author.Needs.{needs}
-use Rattle.engine_records.specs.Records.{putEvent}
-use Rattle.engine_records.proofs.write_event.Statement.{statement}
-use Rattle.engine_records.proofs.write_event.Tie as tie
+use Rattle.entry.specs.Entry.{putEvent}
+use Rattle.entry.proofs.write.Statement.{statement}
+use Rattle.entry.proofs.write.Tie as tie
 
 returns : tie.Need-returns
 unfolding putEvent
@@ -24,8 +24,8 @@ returns c =
     let three = s5 .store162 .ensures ∙ ap (storeAt 2 _ _) (s4 .store16 .ensures ∙ ap (storeAt 2 _ _) two) in
     s6 .store323 .ensures ∙ (λ i. storeAt 4 (at + 20) (kind .kind-of .ensures i) (three i))
 
-pub write-event-spec : {M : Type 1} → statement M
-write-event-spec =
+pub write-spec : {M : Type 1} → statement M
+write-spec =
     tie.close
     (tie.spec
     (λ c κs. search needs)

@@ -1,8 +1,8 @@
 -- Each way through the code settles the two tests on the kind.
 use borrow.Author.Tests.{ne-eqb}
-use Rattle.engine_records.specs.Records.{matterOr}
-use Rattle.engine_records.proofs.matter.Statement.{statement}
-use Rattle.engine_records.proofs.matter.Tie as tie
+use Rattle.entry.specs.Entry.{matterOr}
+use Rattle.entry.proofs.matter.Statement.{statement}
+use Rattle.entry.proofs.matter.Tie as tie
 
 returns : tie.Need-returns
 unfolding matterOr

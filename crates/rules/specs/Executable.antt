@@ -1,4 +1,5 @@
--- Undo, remove, add and run as functions, with a bound on the undos: forms that compute. Agree and Exist say that they are the rules of specs/Undo.
+-- Undo, remove, add and run as functions, with a bound on the undos: forms that compute. That they are the rules of Undo is proved (rules/proofs/Undo,
+-- Agree and Exist).
 use Prim.Native.Nat.{ℕ, zero, suc}
 use mathlib.Core.Bool.{cond, not, _&&_}
 use mathlib.Core.List.{List, [], _∷_}
@@ -54,28 +55,28 @@ unfoldable pub undoFrom : Plan → Queue → ℕ → Event → Queue
 undoFrom p q s x = undoWithin p (runs (q .held)) q s x
 
 -- removing a held event: undo its target's run events from it on, then drop it
-unfoldable pub remove : Plan → Queue → Event → Queue
-remove p q x =
+unfoldable pub removing : Plan → Queue → Event → Queue
+removing p q x =
     let r : Queue = undoFrom p q (x .target) x in
     record { states = r .states; held = delete x (r .held) }
 
 unfoldable pub removeAll : Plan → List Event → Queue → Queue
 removeAll p [] q = q
-removeAll p (y ∷ ys) q = removeAll p ys (remove p q y)
+removeAll p (y ∷ ys) q = removeAll p ys (removing p q y)
 
 -- undoing the event e of station s, run from b: h are the held events with it unrun
 unfoldable pub undoEvent : Plan → Queue → ℕ → Event → State → List Held → Queue
 undoEvent p q s e b h = removeAll p (runEvent p b e .sends) (record { states = update (q .states) s b; held = h })
 
 -- adding an event: undo its target's run events after it, then hold it unrun
-unfoldable pub add : Plan → Queue → Event → Queue
-add p q x =
+unfoldable pub adding : Plan → Queue → Event → Queue
+adding p q x =
     let r : Queue = undoFrom p q (x .target) x in
     record { states = r .states; held = place x (r .held) }
 
 unfoldable pub addAll : Plan → List Event → Queue → Queue
 addAll p [] q = q
-addAll p (y ∷ ys) q = addAll p ys (add p q y)
+addAll p (y ∷ ys) q = addAll p ys (adding p q y)
 
 -- running x, the least unrun event of its target: its sends are added in order, and x is run
 unfoldable pub runLeast : Plan → Queue → Event → Queue

@@ -1,9 +1,9 @@
 -- The fields that were loaded are those of the definition.
 use mathlib.Core.Path.{_∙_}
 use borrow.Author.Needs.{needs}
-use Rattle.engine_records.specs.Records.{eventAt, matterOr}
-use Rattle.engine_records.proofs.read_event.Statement.{statement}
-use Rattle.engine_records.proofs.read_event.Tie as tie
+use Rattle.entry.specs.Entry.{eventAt, matterOr}
+use Rattle.entry.proofs.read.Statement.{statement}
+use Rattle.entry.proofs.read.Tie as tie
 
 returns : tie.Need-returns
 unfolding eventAt
@@ -16,8 +16,8 @@ returns c =
       matter = (c .matter .ensures ∙ (λ j. matterOr (c .before .before .load322 .ensures j) (c .before .load323 .ensures j))) i;
     }
 
-pub read-event-spec : {M : Type 1} → statement M
-read-event-spec =
+pub read-spec : {M : Type 1} → statement M
+read-spec =
     tie.close
     (tie.spec
     (λ c κs. search needs)
