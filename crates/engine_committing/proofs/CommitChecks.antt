@@ -1,8 +1,9 @@
--- A commit is refused by the first of its four numbers that holds, and then nothing is changed.
-use mathlib.Core.Path.{_≡_, refl, sym, _∙_, subst}
-use mathlib.Core.Bool.{Bool, true, false, not}
+-- A commit is judged: the first of its four numbers that holds refuses it.
+use mathlib.Core.Path.{_≡_, sym, subst}
+use mathlib.Core.Bool.{Bool, true, false}
 use mathlib.Core.List.{List}
 use Prim.Native.Nat.{ℕ, _+_, _*_, _≤_, _<_}
+use native.Mathlib.Omega.{arith}
 use borrow.Author.Tests.{lt-ltb, le-ltb}
 use lib.ListN.{length}
 use Rattle.refusal.specs.declared.Refusal.{Refusal}
@@ -14,14 +15,11 @@ use Rattle.line.specs.Station.{Plan}
 use Rattle.rules.specs.Held.{unrunBefore, logged}
 use Rattle.rules.specs.Engine.{Engine, Commit}
 use Rattle.rules.specs.Checks.{checks}
-use Rattle.rules.specs.Calls.{refuse}
 use Rattle.engine_events.specs.Represents.{fitsIn, Holds}
-use Rattle.engine_answers.specs.declared.CommitAnswer.the-variants.{Refused}
 use Rattle.engine_promises.specs.Represents.{Represents}
-use Rattle.engine_promises.specs.Answers.{commitSaid}
-use Rattle.engine_promises.specs.Promises.{Commits}
 use Rattle.engine_promises.specs.Steps.{atMost}
-use Rattle.engine_committing.specs.Steps.{Counts}
+use Rattle.engine_committing.specs.declared.CommitJudged.the-variants as J
+use Rattle.engine_committing.specs.Steps.{Counts, JudgesCommit}
 use Rattle.engine_committing.specs.Steps.{Early as SaysEarly}
 use Rattle.engine_promises.proofs.Header.{fits-read, unfit}
 
@@ -51,27 +49,24 @@ module _ (p : Plan) (e : Engine) (time : ℕ) (output : List ℕ) where
         unfolding checks judged orNext
         judged-passed h = rw (le-ltb (horizon + 1) time a, le-ltb time (e .now) b, d, le-ltb (length output) (24 * length (logged time (e .queue .held))) h)
 
--- ---- the answers
+-- ---- judging
 
-not-true : (r : Bool) → not r ≡ true → r ≡ false
-not-true true z = sym z
-not-true false z = refl
-
-module _ (time : ℕ) (xs output : List ℕ) where
+module _ (time room : ℕ) (xs : List ℕ) where
   abbrev Says : Refusal → Type 0
-  Says r = Commits (Commit time) (commitSaid (Refused r)) xs xs output output
+  Says r = JudgesCommit time room xs (J.Refused r)
 
-  refuses : (r : Refusal) → ((p : Plan) (e : Engine) → Represents p e xs → judged (checks p e (Commit time output)) ≡ refused (numberOf r)) → Says r
+  refuses : (r : Refusal) → ((output : List ℕ) → length output ≡ room → (p : Plan) (e : Engine) → Represents p e xs → judged (checks p e (Commit time output)) ≡ refused (numberOf r))
+      → Says r
   refuses r j = record {
-    answered = record { refusal = λ n k. refl; answer = λ p e R. record { after = e; answers = refuse (j p e R); represents = R } };
-    refusal = λ n k. refl;
+    number = λ output l. record { says = j output l };
+    passes = λ n c count q. let z : _≡_ {A = ℕ} 0 1 = cc in absurd (omega arith);
   }
 
   pub says-late : horizon + 1 < time → Says Late
-  says-late h = refuses Late (λ p e R. judged-late p e time output h)
+  says-late h = refuses Late (λ output l p e R. judged-late p e time output h)
 
   pub says-early : time ≤ horizon + 1 → time < loadAt 8 16 xs → Says Early
-  says-early a h = refuses Early (λ p e R. judged-early p e time output a (rw (R .now) at h))
+  says-early a h = refuses Early (λ output l p e R. judged-early p e time output a (rw (R .now) at h))
 
   module _ {n c : ℕ} (s : n ≡ atMost 256 (loadAt 8 0 xs)) (k : c ≡ atMost 4096 (loadAt 8 8 xs)) where
     -- what the bytes hold, by the numbers that are read
@@ -81,19 +76,37 @@ module _ (time : ℕ) (xs output : List ℕ) where
         subst (λ (i : ℕ). Holds p n i (e .now) xs (e .queue) (R .cells)) (f .1)
         (subst (λ (i : ℕ). Holds p i (e .capacity) (e .now) xs (e .queue) (R .cells)) (f .0) (R .holds))
 
-    pub says-space : {r : Bool} → r ≡ fitsIn n c (length xs) → not r ≡ true → Says Space
-    says-space {r} f z = refuses Space (λ p e R. absurd (unfit s k f (not-true r z) R))
+    pub says-space : {r : Bool} → r ≡ fitsIn n c (length xs) → r ≡ false → Says Space
+    says-space {r} f z = refuses Space (λ output l p e R. absurd (unfit s k f z R))
 
     module _ (a : time ≤ horizon + 1) (b : loadAt 8 16 xs ≤ time) where
-      unrun-is : {r v : Bool} → SaysEarly n c xs time r → r ≡ v → (p : Plan) (e : Engine) → Represents p e xs → unrunBefore time (e .queue .held) ≡ v
-      unrun-is E z p e R = sym (E p (e .now) (e .queue) (R .cells) (holds-read p e R)) ∙ z
+      unrun-is : {v : Bool} → SaysEarly n c xs time v → (p : Plan) (e : Engine) → Represents p e xs → unrunBefore time (e .queue .held) ≡ v
+      unrun-is E p e R = sym (E p (e .now) (e .queue) (R .cells) (holds-read p e R))
 
-      pub says-unrun : {r : Bool} → SaysEarly n c xs time r → r ≡ true → Says Unrun
-      says-unrun E z = refuses Unrun (λ p e R. judged-unrun p e time output a (rw (R .now) at b) (unrun-is E z p e R))
+      pub says-unrun : SaysEarly n c xs time true → Says Unrun
+      says-unrun E = refuses Unrun (λ output l p e R. judged-unrun p e time output a (rw (R .now) at b) (unrun-is E p e R))
 
-      pub says-short : {r : Bool} {count : ℕ} → SaysEarly n c xs time r → r ≡ false → Counts n c xs time count → length output < 24 * count → Says Output
-      says-short E z C h =
-          refuses Output
-          (λ p e R.
-          let d = unrun-is E z p e R in
-          judged-short p e time output a (rw (R .now) at b) d (rw (C p (e .now) (e .queue) (R .cells) (holds-read p e R) d) at h))
+      module _ (E : SaysEarly n c xs time false) {count : ℕ} (C : Counts n c xs time count) where
+        pub says-short : room < 24 * count → Says Output
+        says-short h =
+            refuses Output
+            (λ output l p e R.
+            let d = unrun-is E p e R in
+            let z = C p (e .now) (e .queue) (R .cells) (holds-read p e R) d in
+            judged-short p e time output a (rw (R .now) at b) d (omega (arith, l, h, z)))
+
+        pub says-accepted : 24 * count ≤ room → JudgesCommit time room xs (J.Accepts n c count)
+        says-accepted h = record {
+          number = λ output l.
+              record {
+                says = λ p e R.
+                    let d = unrun-is E p e R in
+                    let z = C p (e .now) (e .queue) (R .cells) (holds-read p e R) d in
+                    judged-passed p e time output a (rw (R .now) at b) d (omega (arith, l, h, z));
+              };
+          passes = λ n′ c′ count′ q.
+              let z₁ : n ≡ n′ = cc in
+              let z₂ : c ≡ c′ = cc in
+              let z₃ : count ≡ count′ = cc in
+              rw (← z₁, ← z₂, ← z₃) (record { stations = s; capacity = k; in-time = a; due = b; none-unrun = E; counts = C; room-is = h });
+        }

@@ -6,6 +6,8 @@ use mathlib.Core.List.{List, _∷_, _++_, List·Memᴰ·head, List·Memᴰ·tail
 use Prim.Native.Nat.{ℕ, _+_, _*_, _≤_, _<_}
 use native.Mathlib.Omega.{arith}
 use lib.ListN.{length, drop}
+use Rattle.refusal.specs.declared.Refusal.{Refusal}
+use Rattle.refusal.specs.Numbers.{numberOf}
 use Rattle.refusal.specs.Tests.{horizon}
 use Rattle.words.specs.Le.{loadAt, storeAt}
 use Rattle.line.specs.Station.{Plan}
@@ -17,13 +19,16 @@ use Rattle.engine_index.specs.Represents.{Cell}
 use Rattle.engine_events.specs.Represents.{heldOf, Holds}
 use Rattle.engine_events.specs.Promises.{AfterHeader}
 use Rattle.engine_moves.specs.Promises.{Raises}
-use Rattle.engine_answers.specs.declared.CommitAnswer.the-variants.{Done}
+use Rattle.engine_answers.specs.declared.CommitAnswer.the-variants.{Done, Refused as NotDone}
 use Rattle.engine_promises.specs.Represents.{Represents}
 use Rattle.engine_promises.specs.Answers.{commitSaid}
 use Rattle.engine_promises.specs.Promises.{Commits}
 use Rattle.engine_promises.specs.Steps.{atMost}
-use Rattle.engine_committing.specs.Steps.{Early, Counts, eventsOf, Writes}
+use Rattle.engine_committing.specs.declared.CommitJudged.{CommitJudged}
+use Rattle.engine_committing.specs.declared.CommitJudged.the-variants as J
+use Rattle.engine_committing.specs.Steps.{Early, Counts, eventsOf, Writes, commitVerdict, JudgesCommit}
 use Rattle.engine_promises.proofs.Invariant.{reached-next}
+use Rattle.engine_promises.proofs.Refused.{judged-refused}
 use Rattle.engine_promises.proofs.Header.{header-frame, header-word, header-other, header-kept, header-holds, fits-read}
 use Rattle.engine_committing.proofs.LogFront.{AllLate, Parted, parted, logged-front, kept-back, length-events}
 use Rattle.engine_committing.proofs.CommitChecks.{judged-passed, holds-read}
@@ -39,7 +44,7 @@ module _ (time : ℕ) (xs output : List ℕ) {n c : ℕ} (s : n ≡ atMost 256 (
     (U : Raises n c time zs ws) where
   module _ (p : Plan) (e : Engine) (R : Represents p e xs) where
     H : Holds p n c (e .now) xs (e .queue) (R .cells)
-    H = holds-read time xs output s k p e R
+    H = holds-read time (length output) xs s k p e R
 
     none : unrunBefore time (e .queue .held) ≡ false
     none = sym (E p (e .now) (e .queue) (R .cells) H)
@@ -115,7 +120,7 @@ module _ (time : ℕ) (xs output : List ℕ) {n c : ℕ} (s : n ≡ atMost 256 (
           holds = rw rest B;
         }
 
-  pub commit-done : Commits (Commit time) (commitSaid (Done count)) xs ws output left
+  commit-done : Commits (Commit time) (commitSaid (Done count)) xs ws output left
   commit-done = record {
     answered = record {
       refusal = λ i z. absurd (other z);
@@ -126,3 +131,15 @@ module _ (time : ℕ) (xs output : List ℕ) {n c : ℕ} (s : n ≡ atMost 256 (
     where
       other : {i : ℕ} → Committed count left ≡ Refused i → ⊥
       other z = let y : _≡_ {A = ℕ} 0 1 = cc in omega arith
+
+-- ---- the call
+
+module _ {time : ℕ} {xs output : List ℕ} {j : CommitJudged} (I : JudgesCommit time (length output) xs j) where
+  pub commit-refusal : {r : Refusal} → j ≡ J.Refused r → Commits (Commit time) (commitSaid (NotDone r)) xs xs output output
+  commit-refusal {r} q = record { answered = judged-refused (Commit time output) (numberOf r) (I .number output refl) (ap commitVerdict q); refusal = λ i z. refl }
+
+  pub commit-accepted : {n c count : ℕ} → j ≡ J.Accepts n c count → {ys left zs ws : List ℕ} → AfterHeader xs ys → Writes n c xs count output ys left
+      → zs ≡ storeAt 8 16 time ys → AfterHeader zs ws → Raises n c time zs ws → Commits (Commit time) (commitSaid (Done count)) xs ws output left
+  commit-accepted {n} {c} {count} q F W P G U =
+      let a = I .passes n c count q in
+      commit-done time xs output (a .stations) (a .capacity) count (a .in-time) (a .due) (a .none-unrun) (a .counts) (a .room-is) F W P G U

@@ -4,13 +4,21 @@ use mathlib.Core.Bool.{Bool, true, false}
 use mathlib.Core.List.{List, [], _∷_, _++_}
 use Prim.Native.Nat.{ℕ, _+_, _*_, _≤_}
 use lib.ListN.{length, drop}
+use Rattle.words.specs.Le.{loadAt}
+use Rattle.refusal.specs.Numbers.{numberOf}
+use Rattle.refusal.specs.Tests.{horizon, Verdict, accepted, refused}
 use Rattle.line.specs.declared.Event.{Event}
 use Rattle.line.specs.Station.{Plan, InRange}
 use Rattle.rules.specs.Held.{event, Queue, unrunBefore, logged}
+use Rattle.rules.specs.Engine.{Commit}
 use Rattle.entry.specs.Entry.{entries}
 use Rattle.engine_index.specs.Represents.{Cell, hasRun}
 use Rattle.engine_events.specs.Represents.{heldOf, Holds}
+use Rattle.engine_promises.specs.Steps.{atMost, Judges}
+use Rattle.engine_committing.specs.declared.CommitJudged.{CommitJudged}
+use Rattle.engine_committing.specs.declared.CommitJudged.the-variants as J
 
+-- does an unrun event lie before the time?
 abbrev pub Early : ℕ → ℕ → List ℕ → ℕ → Bool → Type 0
 Early n c xs time r = (p : Plan) (now : ℕ) (q : Queue) (cells : List Cell) → Holds p n c now xs q cells → r ≡ unrunBefore time (q .held)
 
@@ -34,3 +42,24 @@ Writes n c xs count output ys left =
     (p : Plan) (now : ℕ) (q : Queue) (front back : List Cell) → InRange p → Holds p n c now xs q (front ++ back) → AllRun front → length front ≡ count
     → 24 * count ≤ length output
     → Holds p n c now ys (record { states = q .states; held = heldOf back }) back × (left ≡ entries (eventsOf front) ++ drop (24 * count) output)
+
+-- ---- judging
+
+-- the number that it says
+abbrev pub commitVerdict : CommitJudged → Verdict
+commitVerdict (J.Accepts n c count) = accepted
+commitVerdict (J.Refused r) = refused (numberOf r)
+
+-- a commit of so many events passes every number, at n stations and c slots
+pub record CommitPasses (n c time count room : ℕ) (xs : List ℕ) : Type 0 where
+  pub stations : n ≡ atMost 256 (loadAt 8 0 xs)
+  pub capacity : c ≡ atMost 4096 (loadAt 8 8 xs)
+  pub in-time : time ≤ horizon + 1
+  pub due : loadAt 8 16 xs ≤ time
+  pub none-unrun : Early n c xs time false
+  pub counts : Counts n c xs time count
+  pub room-is : 24 * count ≤ room
+
+pub record JudgesCommit (time room : ℕ) (xs : List ℕ) (r : CommitJudged) : Type 0 where
+  pub number : (output : List ℕ) → length output ≡ room → Judges (Commit time output) (commitVerdict r) xs
+  pub passes : (n c count : ℕ) → r ≡ J.Accepts n c count → CommitPasses n c time count room xs

@@ -7,7 +7,7 @@ ghost use Prim.Native.Nat.{_≤_};
 ghost use Rattle.rules.specs.Engine.Call.{Commit, Record};
 ghost use Rattle.engine_promises.specs.Answers.{commitSaid, recordSaid};
 ghost use Rattle.engine_promises.specs.Promises.{Answered, Commits};
-ghost use Rattle.engine_committing.specs.Steps.{Early, Counts, Writes};
+ghost use Rattle.engine_committing.specs.Steps.{Early, Counts, Writes, JudgesCommit};
 ghost use Rattle.engine_events.specs.Promises.{AfterHeader};
 use calendar::Least;
 use engine_answers::CommitAnswer;
@@ -71,33 +71,50 @@ fn write_first(b: &mut [u8], n: u16, c: u16, count: u16, out: &mut [u8])
     }
 }
 
-// Every event before the time is written and dropped, and the time is the commit time.
-pub fn commit(b: &mut [u8], time: u64, out: &mut [u8]) -> CommitAnswer
-    ensures { λ r. ⌜ Commits (Commit time) (commitSaid r) (now (b .entry)) (now (b .exit)) (now (out .entry)) (now (out .exit)) ⌝ }
+// What judging a commit finds: how many events it writes, with the line's numbers of stations and slots, or the refusal.
+enum CommitJudged {
+    Accepts { n: u16, c: u16, count: u16 },
+    Refused(Refusal),
+}
+
+// The commit is judged, for an output of so many bytes.
+fn judge_commit(b: &[u8], time: u64, room: usize) -> CommitJudged
+    ensures { λ r. ⌜ JudgesCommit time room (now (b .entry)) r ⌝ }
 {
     let n = engine_promises::stations(b);
     let c = engine_promises::capacity(b);
     if !engine_events::fits(b, n, c) {
-        return CommitAnswer::Refused(Refusal::Space);
+        return CommitJudged::Refused(Refusal::Space);
     }
     if HORIZON + 1 < time {
-        return CommitAnswer::Refused(Refusal::Late);
+        return CommitJudged::Refused(Refusal::Late);
     }
     if time < engine_rows::header(b, 2) {
-        return CommitAnswer::Refused(Refusal::Early);
+        return CommitJudged::Refused(Refusal::Early);
     }
     if unrun_before(b, n, c, time) {
-        return CommitAnswer::Refused(Refusal::Unrun);
+        return CommitJudged::Refused(Refusal::Unrun);
     }
     let count = count_before(b, n, c, time);
-    if out.len() < 24 * count as usize {
-        return CommitAnswer::Refused(Refusal::Output);
+    if room < 24 * count as usize {
+        return CommitJudged::Refused(Refusal::Output);
     }
-    write_first(b, n, c, count, out);
-    engine_rows::set_header(b, 2, time);
-    engine_moves::raise(b, n, c, time);
-    CommitAnswer::Done {
-        count: count as u64,
+    CommitJudged::Accepts { n, c, count }
+}
+
+// Every event before the time is written and dropped, and the time is the commit time.
+pub fn commit(b: &mut [u8], time: u64, out: &mut [u8]) -> CommitAnswer
+    ensures { λ r. ⌜ Commits (Commit time) (commitSaid r) (now (b .entry)) (now (b .exit)) (now (out .entry)) (now (out .exit)) ⌝ }
+{
+    match judge_commit(b, time, out.len()) {
+        CommitJudged::Refused(e) => CommitAnswer::Refused(e),
+        CommitJudged::Accepts { n, c, count } => {
+            write_first(b, n, c, count, out);
+            engine_rows::set_header(b, 2, time);
+            engine_moves::raise(b, n, c, time);
+            let count = count as u64;
+            CommitAnswer::Done { count }
+        }
     }
 }
 

@@ -4,3 +4,4 @@ pub mod EverySlot
 pub mod PostSlots
 pub mod OnePost
 pub mod Retracting
+pub mod PostJudging

@@ -1,10 +1,12 @@
 -- A retract: refused where no held post has the number, and else the only one with it is removed.
-use mathlib.Core.Path.{_≡_, refl, sym, _∙_, subst}
+use mathlib.Core.Path.{_≡_, refl, sym, ap, _∙_, subst}
 use mathlib.Core.Logic.{_≢_}
 use mathlib.Core.List.{List}
 use Prim.Native.Nat.{ℕ}
 use native.Mathlib.Omega.{arith}
 use Rattle.words.specs.Le.{loadAt}
+use Rattle.refusal.specs.declared.Refusal.{Refusal}
+use Rattle.refusal.specs.Numbers.{numberOf}
 use Rattle.refusal.specs.Tests.{accepted, refused, orNext, judged}
 use Rattle.line.specs.declared.Event.{Event}
 use Rattle.line.specs.Event.{posted}
@@ -13,7 +15,7 @@ use Rattle.rules.specs.Held.{Held, unrun, ran, event, In, Queue, Found, some, u
 use Rattle.rules.specs.Undo.{Does, Remove}
 use Rattle.rules.specs.Engine.{Engine, Retract, Refused, Retracted}
 use Rattle.rules.specs.Checks.{checks}
-use Rattle.rules.specs.Calls.{with, Answers, refuse, retract}
+use Rattle.rules.specs.Calls.{with, Answers, retract}
 use Rattle.rules.specs.Demand.{posts, retracted, logs}
 use Rattle.rules.specs.Executable.{removing}
 use Rattle.rules.specs.Replay.{insertSorted, Replayed}
@@ -27,11 +29,14 @@ use Rattle.engine_moves.proofs.Cells.Split.{held-in}
 use Rattle.engine_rollback.specs.BetweenSteps.{Mid, RollsTo}
 use Rattle.engine_rollback.specs.Promises.{Removes}
 use Rattle.engine_promises.specs.Represents.{Represents}
-use Rattle.engine_promises.specs.Steps.{atMost}
-use Rattle.engine_posting.specs.Steps.{FindsPost}
+use Rattle.engine_promises.specs.Steps.{atMost, Judges, Numbered}
+use Rattle.engine_posting.specs.declared.RetractJudged.{RetractJudged}
+use Rattle.engine_posting.specs.declared.RetractJudged.the-variants as J
+use Rattle.engine_posting.specs.Steps.{FindsPost, retractVerdict, JudgesRetract}
 use Rattle.engine_promises.specs.Promises.{Becomes, Answered}
 use Rattle.engine_promises.proofs.Invariant.{made, invariant, neat, waiting, reached-next}
 use Rattle.engine_promises.proofs.Header.{header-kept, fits-read}
+use Rattle.engine_promises.proofs.Refused.{judged-refused}
 use Rattle.engine_posting.proofs.OnePost.{the-post, waits-inserted, post-fresh}
 
 is-held : (h : Held) (hs : List Held) → In h hs → IsHeld (event h) hs
@@ -43,21 +48,25 @@ module _ {p : Plan} {e : Engine} {xs : List ℕ} (R : Represents p e xs) (number
   unfolding checks judged orNext
   none-refused z = rw z
 
-  retract-none : heldPost number (e .queue .held) ≡ Found.none → Becomes p e (Retract number) (Refused 13) xs
-  retract-none z = record { after = e; answers = refuse (none-refused z); represents = R }
-
   some-accepted : {x : Event} → heldPost number (e .queue .held) ≡ some x → judged (checks p e (Retract number)) ≡ accepted
   unfolding checks judged orNext
   some-accepted z = rw z
+
+  held-at : {h : Held} {x : ℕ} → Has (cell x h) (R .cells) → In h (e .queue .held)
+  held-at {h} {x} m = rw (sym (R .holds .stores .held)) (held-in (R .cells) (cell x h) m)
+
+  -- the held post of that number
+  the-held : (h : Held) {x : ℕ} → Has (cell x h) (R .cells) → event h .source ≡ posted → event h .number ≡ number → heldPost number (e .queue .held) ≡ some (event h)
+  the-held h m s l = the-post p (R .range) e (posts p 0 (made R)) (retracted (made R)) (logs (made R)) (invariant R) h (held-at m) s number l
 
   -- the post of node x is removed
   module _ (h : Held) {x k : ℕ} {ys : List ℕ} (m : Has (cell x h) (R .cells)) (s : event h .source ≡ posted) (l : event h .number ≡ number)
       (F : AfterHeader xs ys) (D : Removes (p .count) (e .capacity) xs x k ys) where
     held : In h (e .queue .held)
-    held = rw (sym (R .holds .stores .held)) (held-in (R .cells) (cell x h) m)
+    held = held-at m
 
     the : heldPost number (e .queue .held) ≡ some (event h)
-    the = the-post p (R .range) e (posts p 0 (made R)) (retracted (made R)) (logs (made R)) (invariant R) h held s number l
+    the = the-held h m s l
 
     abbrev left : Queue
     left = removing p (e .queue) (event h)
@@ -113,19 +122,52 @@ module _ {p : Plan} {e : Engine} {xs : List ℕ} (R : Represents p e xs) (number
       let r = g .some p (e .now) (e .queue) (R .cells) (R .holds) d in
       retract-some (r .0) (r .1) (r .2) (r .3) F D′
 
-  retract-unfound : {n c x : ℕ} → p .count ≡ n → e .capacity ≡ c → FindsPost n c number xs x → x ≡ 0 → Becomes p e (Retract number) (Refused 13) xs
-  retract-unfound {n} {c} {x} a b f d =
-      let g : FindsPost (p .count) (e .capacity) number xs x = rw (a, b) f in
-      retract-none (g .none p (e .now) (e .queue) (R .cells) (R .holds) d)
+-- ---- judging
+
+pub retract-refused : {number : ℕ} {xs : List ℕ} (r : Refusal) → Judges (Retract number) (refused (numberOf r)) xs → JudgesRetract number xs (J.Refused r)
+retract-refused r f = record {
+  number-is = f;
+  numbers = λ n c x q. let z : _≡_ {A = ℕ} 0 1 = cc in absurd (omega arith);
+  post = λ n c x q. let z : _≡_ {A = ℕ} 0 1 = cc in absurd (omega arith);
+}
+
+module _ {xs : List ℕ} {n c number x : ℕ} (k : n ≡ atMost 256 (loadAt 8 0 xs)) (m : c ≡ atMost 4096 (loadAt 8 8 xs)) (f : FindsPost n c number xs x) where
+  finds : {p : Plan} {e : Engine} → Represents p e xs → FindsPost (p .count) (e .capacity) number xs x
+  finds R = let w = fits-read R k m in rw (w .0, w .1) f
+
+  pub unknown-post : x ≡ 0 → Judges (Retract number) (refused 13) xs
+  unknown-post z = record { says = λ p e R. none-refused R number (finds R .none p (e .now) (e .queue) (R .cells) (R .holds) z) }
+
+  pub known-post : x ≢ 0 → JudgesRetract number xs (J.Accepts n c x)
+  known-post d = record {
+    number-is = record {
+      says = λ p e R.
+          let g = finds R .some p (e .now) (e .queue) (R .cells) (R .holds) d in
+          some-accepted R number (the-held R number (g .0) (g .1) (g .2) (g .3));
+    };
+    numbers = λ n′ c′ x′ q p e R.
+        let w = fits-read R k m in
+        let z₁ : n ≡ n′ = cc in
+        let z₂ : c ≡ c′ = cc in
+        (w .0 ∙ z₁, w .1 ∙ z₂);
+    post = λ n′ c′ x′ q.
+        let z₁ : n ≡ n′ = cc in
+        let z₂ : c ≡ c′ = cc in
+        let z₃ : x ≡ x′ = cc in
+        rw (← z₁, ← z₂, ← z₃) (d, f);
+  }
 
 -- ---- the call
 
-module _ {xs : List ℕ} {n c number x : ℕ} (k : n ≡ atMost 256 (loadAt 8 0 xs)) (m : c ≡ atMost 4096 (loadAt 8 8 xs)) (f : FindsPost n c number xs x) where
-  pub unknown-post : x ≡ 0 → Answered (Retract number) (Refused 13) xs xs
-  unknown-post z = record { refusal = λ i q. refl; answer = λ p e R. let w = fits-read R k m in retract-unfound R number (w .0) (w .1) f z }
+module _ {number : ℕ} {xs : List ℕ} {j : RetractJudged} (I : JudgesRetract number xs j) where
+  pub retract-refusal : {r : Refusal} → j ≡ J.Refused r → Answered (Retract number) (Refused (numberOf r)) xs xs
+  retract-refusal {r} q = judged-refused (Retract number) (numberOf r) (I .number-is) (ap retractVerdict q)
 
-  pub removed-post : {u : ℕ} {ys : List ℕ} → x ≢ 0 → AfterHeader xs ys → Removes n c xs x u ys → Answered (Retract number) (Retracted u) xs ys
-  removed-post d F D = record {
-    refusal = λ i q. let z : _≡_ {A = ℕ} 0 1 = cc in absurd (omega arith);
-    answer = λ p e R. let w = fits-read R k m in retract-found R number (w .0) (w .1) f d F D;
+  pub retract-done : {n c x u : ℕ} {ys : List ℕ} → j ≡ J.Accepts n c x → AfterHeader xs ys → Removes n c xs x u ys → Answered (Retract number) (Retracted u) xs ys
+  retract-done {n} {c} {x} q F D = record {
+    refusal = λ i z. let y : _≡_ {A = ℕ} 0 1 = cc in absurd (omega arith);
+    answer = λ p e R.
+        let f = I .post n c x q in
+        let w = I .numbers n c x q p e R in
+        retract-found R number (w .0) (w .1) (f .1) (f .0) F D;
   }

@@ -5,16 +5,30 @@ use mathlib.Core.List.{List}
 use Prim.Native.Nat.{ℕ, suc, _+_, _≤_}
 use lib.Dec.{ltb, leb}
 use lib.ListN.{length}
+use Rattle.refusal.specs.Tests.{Verdict, judged}
 use Rattle.line.specs.Station.{Plan}
 use Rattle.rules.specs.Held.{Queue}
+use Rattle.rules.specs.Engine.{Engine, Call}
+use Rattle.rules.specs.Checks.{checks}
 use Rattle.engine_index.specs.Represents.{Cell}
 use Rattle.engine_events.specs.Represents.{Holds}
+use Rattle.engine_promises.specs.Represents.{Represents}
 
 -- ---- the header
 
 -- a word that is at most m; m + 1 where it is more
 abbrev pub atMost : ℕ → ℕ → ℕ
 atMost m w = cond (ltb m w) (suc m) w
+
+-- ---- judging
+
+-- a call is judged by reading alone: v is the number that refuses it, or accepted, at the engine that the bytes stand for
+pub record Judges (call : Call) (v : Verdict) (xs : List ℕ) : Type 0 where
+  pub says : (p : Plan) (e : Engine) → Represents p e xs → judged (checks p e call) ≡ v
+
+-- n and c are the line's numbers of stations and slots
+abbrev pub Numbered : ℕ → ℕ → List ℕ → Type 0
+Numbered n c xs = (p : Plan) (e : Engine) → Represents p e xs → (p .count ≡ n) × (e .capacity ≡ c)
 
 -- ---- post
 

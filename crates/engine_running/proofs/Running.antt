@@ -8,6 +8,7 @@ use native.Mathlib.Omega.{arith}
 use borrow.Author.Tests.{le-leb, lt-leb, leb-true, leb-false}
 use lib.Dec.{leb}
 use lib.ListN.{length, length-append, getD}
+use Rattle.refusal.specs.Tests.{accepted, refused, judged}
 use Rattle.line.specs.declared.Config.{Config}
 use Rattle.line.specs.declared.Effect.{Effect}
 use Rattle.line.specs.declared.Event.{Event}
@@ -22,7 +23,8 @@ use Rattle.line.proofs.Sends.{Sent, Good}
 use Rattle.rules.specs.Held.{unrun, Queue, leastUnrun, mark, undone}
 use Rattle.rules.specs.Held.Found.{none as nothing}
 use Rattle.rules.specs.Undo.{NoneLater, Does, AddEach}
-use Rattle.rules.specs.Engine.{Engine, RunStation, Refused, Ran as Said}
+use Rattle.rules.specs.Engine.{Engine, RunStation, Ran as Said}
+use Rattle.rules.specs.Checks.{checks}
 use Rattle.rules.specs.Calls.{with, running, Answers, run}
 use Rattle.rules.specs.Demand.{posts, retracted, logs}
 use Rattle.rules.specs.Executable.{runs, addAll, runLeast}
@@ -63,7 +65,6 @@ use Rattle.engine_running.proofs.FirstUnrun.{Waits, waiting-found}
 use Rattle.line.proofs.SendFits.{sends-fit, after-fits}
 use Rattle.engine_running.proofs.Outcomes.{over-passes, within-is, outcomeOf, sends-few}
 use Rattle.engine_running.proofs.SendsAdded.{Ready, Stage, send-more}
-use Rattle.engine_promises.proofs.Refused.{refused-so}
 
 -- what the call reads, where it finds a slot
 pub record Reads (n c s x : ℕ) (xs : List ℕ) (v : Event) (r : Ran) : Type 0 where
@@ -80,11 +81,11 @@ reads-of {xs = xs} l i F h j k m o = record { inside = l; next = i; above = F .s
 
 module _ {p : Plan} {e : Engine} {xs : List ℕ} (R : Represents p e xs) {s x : ℕ} (l : s < p .count)
     (i : x ≡ nextOf xs (linksAt (p .count) (e .capacity)) s) where
-  pub idle-so : (IsSlot (p .count) (e .capacity) (length xs) x → ⊥) → P.Becomes p e (RunStation s) (Refused 14) xs
+  pub idle-so : (IsSlot (p .count) (e .capacity) (length xs) x → ⊥) → judged (checks p e (RunStation s)) ≡ refused 14
   idle-so z = go (waiting-found s x l i (R .holds))
     where
-      go : ((x ≡ s) × (leastUnrun s (e .queue .held) ≡ nothing)) ⊎ Waits (p .count) s x xs (e .queue) (R .cells) → P.Becomes p e (RunStation s) (Refused 14) xs
-      go (inl w) = refused-so (RunStation s) 14 R (run-14 p e s l (w .1))
+      go : ((x ≡ s) × (leastUnrun s (e .queue .held) ≡ nothing)) ⊎ Waits (p .count) s x xs (e .queue) (R .cells) → judged (checks p e (RunStation s)) ≡ refused 14
+      go (inl w) = run-14 p e s l (w .1)
       go (inr w) = absurd (z (cell-slot (R .holds .stores .stands) (cell x (unrun (w .waiting))) (w .at)))
 
   pub some-waits : 2 * p .count < x → Waits (p .count) s x xs (e .queue) (R .cells)
@@ -118,8 +119,8 @@ module _ {p : Plan} {e : Engine} {xs : List ℕ} (R : Represents p e xs) {s x : 
       ∙ ap (λ y. counted (runAt (p .config s) (st s) y)) v-is
       ∙ ap (λ t. counted (runAt (p .config t) (st t) w)) (sym (W .target-is))
 
-  pub over-so : r ≡ Over → P.Becomes p e (RunStation s) (Refused 16) xs
-  over-so z = refused-so (RunStation s) 16 R (run-16 p e s (G .inside) w (W .least) (over-passes o (ap said (sym z) ∙ outcome-is)))
+  pub over-so : r ≡ Over → judged (checks p e (RunStation s)) ≡ refused 16
+  over-so z = run-16 p e s (G .inside) w (W .least) (over-passes o (ap said (sym z) ∙ outcome-is))
 
   module _ (f : Effect) (t : r ≡ Done f) where
     is-within : (countsPass (o .after) ≡ false) × (o ≡ outcomeOf f)
@@ -140,23 +141,26 @@ module _ {p : Plan} {e : Engine} {xs : List ℕ} (R : Represents p e xs) {s x : 
         h p (e .now) (e .queue) (R .cells) (R .holds) (length (o .sends)) (omega (arith, number-of, sends-few (f .first), sends-few (f .second)))
 
     pub full-so : {room : ℕ} → HasRoom (p .count) (e .capacity) xs room → room < length (sendsOf (f .first)) + length (sendsOf (f .second))
-        → P.Becomes p e (RunStation s) (Refused 17) xs
+        → judged (checks p e (RunStation s)) ≡ refused 17
     full-so {room} h k =
         let z : leb (length (R .cells) + length (o .sends)) (e .capacity) ≡ false =
         sym (room-says room h) ∙ lt-leb (length (o .sends)) room (omega (arith, number-of)) in
-        refused-so (RunStation s) 17 R
-        (run-17 p e s (G .inside) w (W .least) (is-within .0) (omega (arith, leb-false (length (R .cells) + length (o .sends)) (e .capacity) z, held-are))
-        (omega (arith, held-are, R .holds .stores .places)))
+        run-17 p e s (G .inside) w (W .least) (is-within .0) (omega (arith, leb-false (length (R .cells) + length (o .sends)) (e .capacity) z, held-are))
+        (omega (arith, held-are, R .holds .stores .places))
 
-    -- ---- the sends are added and the event is run
-
-    module _ {room : ℕ} (h : HasRoom (p .count) (e .capacity) xs room) (k : length (sendsOf (f .first)) + length (sendsOf (f .second)) ≤ room)
-        (low : (j : ℕ) → getD xs j 0 < 256) where
+    module _ {room : ℕ} (h : HasRoom (p .count) (e .capacity) xs room) (k : length (sendsOf (f .first)) + length (sendsOf (f .second)) ≤ room) where
       room-for : length (R .cells) + length (o .sends) ≤ e .capacity
       room-for =
           leb-true (length (R .cells) + length (o .sends)) (e .capacity)
           (sym (room-says room h) ∙ le-leb (length (o .sends)) room (omega (arith, number-of)))
 
+      pub accepted-so : judged (checks p e (RunStation s)) ≡ accepted
+      accepted-so = run-accepted p e s (G .inside) w (W .least) (is-within .0) (omega (arith, held-are, room-for))
+
+    -- ---- the sends are added and the event is run
+
+    module _ {room : ℕ} (h : HasRoom (p .count) (e .capacity) xs room) (k : length (sendsOf (f .first)) + length (sendsOf (f .second)) ≤ room)
+        (low : (j : ℕ) → getD xs j 0 < 256) where
       first : First (w .target) w (e .queue .held)
       first = first-of p (R .range) e (posts p 0 (made R)) (retracted (made R)) (logs (made R)) (invariant R) s w (W .least)
 
@@ -212,7 +216,7 @@ module _ {p : Plan} {e : Engine} {xs : List ℕ} (R : Represents p e xs) {s x : 
         state = refl;
         nodes = none;
         waits = tt;
-        room = room-for;
+        room = room-for h k;
         rest = refl;
         falls = omega arith;
         each = ready;
@@ -280,7 +284,7 @@ module _ {p : Plan} {e : Engine} {xs : List ℕ} (R : Represents p e xs) {s x : 
         answers : Answers p e (RunStation s) (Said s (k1 + k2)) (with e left)
         answers =
             subst (λ j. Answers p e (RunStation s) (Said s j) (with e left)) count
-            (run (run-accepted p e s (G .inside) w (W .least) (is-within .0) (omega (arith, held-are, room-for))) (W .least) does)
+            (run (accepted-so h k) (W .least) does)
 
         pub run-so : P.Becomes p e (RunStation s) (Said s (k1 + k2)) us
         unfolding with

@@ -10,15 +10,18 @@ ghost use Rattle.rules.specs.Engine.Call.{RunStation, RunLowest};
 ghost use Rattle.engine_promises.specs.Answers.{runSaid};
 ghost use Rattle.engine_promises.specs.Promises.{Answered};
 ghost use Rattle.engine_promises.specs.Steps.{HasRoom};
-ghost use Rattle.engine_running.specs.Steps.{AddsSend, RunsAt};
+ghost use Rattle.engine_running.specs.Steps.{AddsSend, JudgesRun, RunsNode, RunsAt, JudgesLowest};
 ghost use Rattle.line.specs.Answer.{sendsOf};
 ghost use Rattle.engine_events.specs.Promises.{AfterHeader};
 use calendar::Least;
 use engine_answers::RunAnswer;
 use engine_rollback::Added;
+use line::Effect;
 use line::Ran;
 use line::Sending;
 use refusal::Refusal;
+
+// ---- sends
 
 // How many events a place for a send has.
 fn sends(s: Sending) -> u16
@@ -57,20 +60,28 @@ fn add_send(b: &mut [u8], n: u16, c: u16, s: Sending) -> Added
     }
 }
 
-// The first unrun event of station s is run, and its sends are added in order.
-fn run_at(b: &mut [u8], n: u16, c: u16, s: u16) -> RunAnswer
-    ensures { λ r. ⌜ RunsAt n c s r (now (b .entry)) (now (b .exit)) ⌝ }
+// ---- a station's run
+
+// What judging a run finds: the node of the station's first unrun event and what running it does, or the refusal.
+enum RunJudged {
+    Accepts { node: u16, effect: Effect },
+    Refused(Refusal),
+}
+
+// The run of station s is judged.
+fn judge_run(b: &[u8], n: u16, c: u16, s: u16) -> RunJudged
+    ensures { λ r. ⌜ JudgesRun n c s (now (b .entry)) r ⌝ }
 {
     if !engine_events::fits(b, n, c) {
-        return RunAnswer::Refused(Refusal::Space);
+        return RunJudged::Refused(Refusal::Space);
     }
     if n <= s {
-        return RunAnswer::Refused(Refusal::Station);
+        return RunJudged::Refused(Refusal::Station);
     }
     let x = engine_index::next(b, n, c, s);
     let i = engine_index::slot_in(b, n, c, x);
     if c <= i {
-        return RunAnswer::Refused(Refusal::Idle);
+        return RunJudged::Refused(Refusal::Idle);
     }
     let e = engine_rows::event(b, n, i);
     let Ran::Done(effect) = line_running::run_event(
@@ -78,22 +89,44 @@ fn run_at(b: &mut [u8], n: u16, c: u16, s: u16) -> RunAnswer
         engine_rows::state(b, n, s),
         e,
     ) else {
-        return RunAnswer::Refused(Refusal::Count);
+        return RunJudged::Refused(Refusal::Count);
     };
-    let after = effect.state;
     let one = effect.first;
     let two = effect.second;
     if free_places(b, n, c) < sends(one) + sends(two) {
-        return RunAnswer::Refused(Refusal::Full);
+        return RunJudged::Refused(Refusal::Full);
     }
+    RunJudged::Accepts { node: x, effect }
+}
+
+// The event of that node is run, and its sends are added in order. Answers how many events are undone.
+fn run_node(b: &mut [u8], n: u16, c: u16, x: u16, effect: Effect) -> u64
+    ensures { λ r. ⌜ RunsNode n c x effect r (now (b .entry)) (now (b .exit)) ⌝ }
+{
+    let one = effect.first;
+    let two = effect.second;
+    let after = effect.state;
     let first = add_send(b, n, c, one);
     let second = add_send(b, n, c, two);
     engine_moves::run(b, n, c, x, after, first.node, second.node);
-    RunAnswer::Done {
-        station: s as u64,
-        undone: first.undone + second.undone,
+    first.undone + second.undone
+}
+
+// The first unrun event of station s is run.
+fn run_at(b: &mut [u8], n: u16, c: u16, s: u16) -> RunAnswer
+    ensures { λ r. ⌜ RunsAt n c s r (now (b .entry)) (now (b .exit)) ⌝ }
+{
+    match judge_run(b, n, c, s) {
+        RunJudged::Refused(e) => RunAnswer::Refused(e),
+        RunJudged::Accepts { node, effect } => {
+            let undone = run_node(b, n, c, node, effect);
+            let station = s as u64;
+            RunAnswer::Done { station, undone }
+        }
     }
 }
+
+// ---- the two calls
 
 // The station's least unrun event is run.
 pub fn run_station(b: &mut [u8], station: u64) -> RunAnswer
@@ -107,20 +140,37 @@ pub fn run_station(b: &mut [u8], station: u64) -> RunAnswer
     run_at(b, n, c, station as u16)
 }
 
-// The same for the station that the calendar names.
-pub fn run_lowest(b: &mut [u8]) -> RunAnswer
-    ensures { λ r. ⌜ Answered RunLowest (runSaid r) (now (b .entry)) (now (b .exit)) ⌝ }
+// What judging a run lowest finds: the station that the calendar names, with the line's numbers of stations and slots, or the refusal.
+enum LowestJudged {
+    Accepts { n: u16, c: u16, station: u16 },
+    Refused(Refusal),
+}
+
+// A run lowest is judged, but for what refuses the run of its station.
+fn judge_lowest(b: &[u8]) -> LowestJudged
+    ensures { λ r. ⌜ JudgesLowest (now (b .entry)) r ⌝ }
 {
     let n = engine_promises::stations(b);
     let c = engine_promises::capacity(b);
     if !engine_events::fits(b, n, c) {
-        return RunAnswer::Refused(Refusal::Space);
+        return LowestJudged::Refused(Refusal::Space);
     }
     let Least::At { station, time: _ } = engine_events::lowest(b, n, c) else {
-        return RunAnswer::Refused(Refusal::Idle);
+        return LowestJudged::Refused(Refusal::Idle);
     };
     if 65535 < station {
-        return RunAnswer::Refused(Refusal::Station);
+        return LowestJudged::Refused(Refusal::Station);
     }
-    run_at(b, n, c, station as u16)
+    let station = station as u16;
+    LowestJudged::Accepts { n, c, station }
+}
+
+// The same for the station that the calendar names.
+pub fn run_lowest(b: &mut [u8]) -> RunAnswer
+    ensures { λ r. ⌜ Answered RunLowest (runSaid r) (now (b .entry)) (now (b .exit)) ⌝ }
+{
+    match judge_lowest(b) {
+        LowestJudged::Refused(e) => RunAnswer::Refused(e),
+        LowestJudged::Accepts { n, c, station } => run_at(b, n, c, station),
+    }
 }
