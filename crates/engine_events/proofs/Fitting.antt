@@ -8,10 +8,9 @@ use borrow.Author.Tests.{le-leb, lt-leb, leb-true}
 use lib.Dec.{leb}
 use lib.ListN.{length}
 use Rattle.line.specs.Station.{Plan}
-use Rattle.rules.specs.Held.{Held, Queue}
-use Rattle.calendar.proofs.States.{state-length}
+use Rattle.rules.specs.Held.{Queue}
 use Rattle.engine_index.specs.Represents.{Cell}
-use Rattle.engine_events.specs.Represents.{fitsIn, part, Stores, Calendared}
+use Rattle.engine_events.specs.Represents.{fitsIn, calendarAt, calendarBytes, Stores}
 
 module _ (n c k : ℕ) where
   pub fits-over : 256 < n → false ≡ fitsIn n c k
@@ -44,6 +43,6 @@ pub fits-gone : {p : Plan} {n c now : ℕ} {xs : List ℕ} {q : Queue} {cells : 
     → Stores p n c now xs q cells → ⊥
 fits-gone e z S = true≢false (sym (stores-fit S) ∙ sym e ∙ z)
 
--- a calendar has a station
-pub some-station : {n now : ℕ} {xs : List ℕ} {h : List Held} → Calendared n now xs h → 0 < n
-some-station {n} {xs = xs} C = omega (arith, C .shows .length-is, state-length (part n xs), C .sound .header .count-pos)
+-- "32768 + 256·N + 256·capacity" bytes hold the header, the stations, the slots with their links, and the calendar's part
+pub calendar-room : (n c : ℕ) → 1 ≤ c → calendarAt n c + calendarBytes n ≤ 32768 + 256 * n + 256 * c
+calendar-room n c h = omega arith

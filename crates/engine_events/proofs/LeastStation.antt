@@ -20,9 +20,9 @@ use Rattle.calendar.proofs.Tests.{none-some, none-false}
 use Rattle.engine_events.specs.Shows.{Shows}
 use Rattle.engine_events.proofs.CalendarShown.{named-lowest, named-time, none-shows}
 use Rattle.engine_index.specs.Represents.{Cell}
-use Rattle.engine_events.specs.Represents.{fitsIn, part, Holds}
+use Rattle.engine_events.specs.Represents.{fitsIn, calendarAt, calendarBytes, part, Holds}
 use Rattle.engine_events.specs.Promises.{Finds}
-use Rattle.engine_events.proofs.Fitting.{fits-gone, some-station}
+use Rattle.engine_events.proofs.Fitting.{fits-gone}
 
 -- ---- the station of least time
 
@@ -41,23 +41,27 @@ inside {n} {s} {t} {ts} A L = go (lt-or s n)
     go (inl l) = l
     go (inr l) = absurd (none-some (sym (List·getD-eq-default ts none (omega (arith, A .length-is))) ∙ L .has))
 
-pub finds : (n c : ℕ) {end : ℕ} (xs : List ℕ) {r : Least} → end ≡ 32832 + 64 * n → Names (take (end - 64) (drop 64 xs)) r → Finds n c xs r
-finds n c {end} xs {r} le N =
+pub finds : (n c : ℕ) {start end : ℕ} (xs : List ℕ) {r : Least} → start ≡ calendarAt n c → end ≡ start + 32768 + 64 * n
+    → Names (take (end - start) (drop start xs)) r → Finds n c xs r
+finds n c {start} {end} xs {r} ls le N =
     record {
       none = λ p now q cells H e k.
           let A = H .calendar .shows in
-          let v : refused (numberOf e) ≡ judged (lowestChecks (stateOf (part n xs))) = rw k at (names .answer (H .calendar .sound)) in
-          sym (none-shows A) ∙ idle (stateOf (part n xs) .times) (numberOf e) v;
+          let v : refused (numberOf e) ≡ judged (lowestChecks (stateOf (part n c xs))) = rw k at (names .answer (H .calendar .sound)) in
+          sym (none-shows A) ∙ idle (stateOf (part n c xs) .times) (numberOf e) v;
       some = λ p now q cells H s t k.
           let A = H .calendar .shows in
           let L = names .least (H .calendar .sound) s t k in
-          (sym (none-shows A) ∙ none-false (stateOf (part n xs) .times) s t (L .has), inside A L, named-lowest A L, named-time A L);
+          (sym (none-shows A) ∙ none-false (stateOf (part n c xs) .times) s t (L .has), inside A L, named-lowest A L, named-time A L);
     }
   where
-    names : Names (part n xs) r
-    names = let k : end - 64 ≡ 32768 + 64 * n = omega arith in rw k at N
+    names : Names (part n c xs) r
+    names = let k : end - start ≡ calendarBytes n = omega arith in at ls k N
+      where
+        at : {a w : ℕ} → start ≡ a → end - start ≡ w → Names (take (end - start) (drop start xs)) r → Names (take w (drop a xs)) r
+        at e k h = rw (k, e) at h
 
--- ---- nothing is held: the numbers are out of range, or there is no station
+-- ---- nothing is held: the numbers are out of range, or there is no slot
 
 abbrev pub Nothing : ℕ → ℕ → List ℕ → Type 0
 Nothing n c xs = (p : Plan) (now : ℕ) (q : Queue) (cells : List Cell) → Holds p n c now xs q cells → ⊥
@@ -65,8 +69,8 @@ Nothing n c xs = (p : Plan) (now : ℕ) (q : Queue) (cells : List Cell) → Hold
 pub nothing-fits : (n c : ℕ) (xs : List ℕ) {r : Bool} → r ≡ fitsIn n c (length xs) → r ≡ false → Nothing n c xs
 nothing-fits n c xs e z p now q cells H = fits-gone e z (H .stores)
 
-pub nothing-station : (n c : ℕ) (xs : List ℕ) → n ≤ 0 → Nothing n c xs
-nothing-station n c xs z p now q cells H = omega (arith, some-station (H .calendar))
+pub nothing-slot : (n c : ℕ) (xs : List ℕ) → c ≤ 0 → Nothing n c xs
+nothing-slot n c xs z p now q cells H = omega (arith, H .stores .some)
 
 pub finds-none : (n c : ℕ) (xs : List ℕ) {r : Least} → Nothing n c xs → Finds n c xs r
 finds-none n c xs N = record { none = λ p now q cells H e k. absurd (N p now q cells H); some = λ p now q cells H s t k. absurd (N p now q cells H) }

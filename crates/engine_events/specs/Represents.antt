@@ -17,7 +17,7 @@ use Rattle.engine_rows.specs.Layout.{stationRow, slotRow}
 use Rattle.engine_records.specs.Records.{stateAt, storedConfig}
 use Rattle.calendar.specs.Bytes.{Sound, stateOf}
 use Rattle.engine_events.specs.Shows.{asTime, Inside, Shows}
-use Rattle.engine_index.specs.Layout.{slotOf}
+use Rattle.engine_index.specs.Layout.{nodesOf, slotOf, logAt}
 use Rattle.engine_index.specs.Represents.{Cell, cell, Stands}
 
 -- ---- the buffer
@@ -26,9 +26,15 @@ use Rattle.engine_index.specs.Represents.{Cell, cell, Stands}
 abbrev pub fitsIn : ℕ → ℕ → ℕ → Bool
 fitsIn n c bytes = leb n 256 && (leb c 4096 && leb (32768 + 256 * n + 256 * c) bytes)
 
--- the calendar's part
-abbrev pub part : ℕ → List ℕ → List ℕ
-part n xs = take (32768 + 64 * n) (drop 64 xs)
+-- the calendar's part stands after the log's links
+abbrev pub calendarAt : ℕ → ℕ → ℕ
+calendarAt n c = logAt n c + 4 * nodesOf n c
+
+abbrev pub calendarBytes : ℕ → ℕ
+calendarBytes n = 32768 + 64 * n
+
+abbrev pub part : ℕ → ℕ → List ℕ → List ℕ
+part n c xs = take (calendarBytes n) (drop (calendarAt n c) xs)
 
 -- ---- the cells
 
@@ -67,6 +73,7 @@ Kids p n xs cells = (x : ℕ) (e : Event) (b : State) → Has (cell x (ran e b))
 -- the bytes hold the queue q, in these cells, for n stations and c slots: all but the calendar
 pub record Stores (p : Plan) (n c now : ℕ) (xs : List ℕ) (q : Queue) (cells : List Cell) : Type 0 where
   pub count : p .count ≡ n
+  pub some : 1 ≤ c
   pub long : 32768 + 256 * n + 256 * c ≤ length xs
   pub configs : (s : ℕ) → s < n → storedConfig (stationRow n s) xs ≡ p .config s
   pub states : (s : ℕ) → s < n → stateAt (stationRow n s + 32) xs ≡ q .states s
@@ -79,19 +86,19 @@ pub record Stores (p : Plan) (n c now : ℕ) (xs : List ℕ) (q : Queue) (cells 
 
 -- the calendar's part is a calendar with the floor `now` that shows the held events: "the calendar holds each station that has an unrun event, at
 -- the time of its least one, and no other"
-pub record Calendared (n now : ℕ) (xs : List ℕ) (h : List Held) : Type 0 where
-  pub sound : Sound (part n xs)
-  pub floor : stateOf (part n xs) .floor ≡ now
-  pub shows : Shows n (stateOf (part n xs) .times) h
+pub record Calendared (n c now : ℕ) (xs : List ℕ) (h : List Held) : Type 0 where
+  pub sound : Sound (part n c xs)
+  pub floor : stateOf (part n c xs) .floor ≡ now
+  pub shows : Shows n (stateOf (part n c xs) .times) h
 
 -- it does so but for station s, whose least unrun event may have changed
-pub record Untold (n now s : ℕ) (xs : List ℕ) (h : List Held) : Type 0 where
-  pub sound : Sound (part n xs)
-  pub floor : stateOf (part n xs) .floor ≡ now
-  pub size : length (stateOf (part n xs) .times) ≡ n
-  pub others : (t : ℕ) → t < n → t ≢ s → getD (stateOf (part n xs) .times) t noTime ≡ asTime (registered h t)
+pub record Untold (n c now s : ℕ) (xs : List ℕ) (h : List Held) : Type 0 where
+  pub sound : Sound (part n c xs)
+  pub floor : stateOf (part n c xs) .floor ≡ now
+  pub size : length (stateOf (part n c xs) .times) ≡ n
+  pub others : (t : ℕ) → t < n → t ≢ s → getD (stateOf (part n c xs) .times) t noTime ≡ asTime (registered h t)
   pub inside : Inside n h
 
 pub record Holds (p : Plan) (n c now : ℕ) (xs : List ℕ) (q : Queue) (cells : List Cell) : Type 0 where
   pub stores : Stores p n c now xs q cells
-  pub calendar : Calendared n now xs (q .held)
+  pub calendar : Calendared n c now xs (q .held)

@@ -1,7 +1,7 @@
 // The held events with their index (crate engine_index), the stations' states (crate engine_rows) and the calendar: what they hold together, and what is
 // read of them. engine_moves changes them.
 //
-// The calendar stands from byte 64 on, in 32768 + 64 n bytes. Each function takes any bytes and any numbers; n stations and c slots are the header's.
+// The calendar stands after the index, in 32768 + 64 n bytes. Each function takes any bytes and any numbers; n stations and c slots are the header's.
 
 ghost use mathlib.Core.Path.{_≡_};
 ghost use Prim.Native.Nat.{_+_};
@@ -11,7 +11,7 @@ ghost use Rattle.engine_rows.specs.Layout.{slotRow};
 ghost use Rattle.entry.specs.Entry.{eventAt};
 ghost use Rattle.engine_records.specs.Records.{stateAt};
 ghost use Rattle.engine_index.specs.Layout.{slotOf};
-ghost use Rattle.engine_events.specs.Represents.{fitsIn};
+ghost use Rattle.engine_events.specs.Represents.{fitsIn, calendarAt};
 ghost use Rattle.engine_events.specs.Promises.{Finds};
 use calendar::Least;
 use line::Event;
@@ -63,14 +63,22 @@ pub fn second_send(b: &[u8], n: u16, x: u16) -> u16
 
 // ---- the calendar
 
+// Where the calendar's part starts.
+pub fn calendar_start(n: u16, c: u16) -> u32
+    ensures { λ r. ⌜ r ≡ calendarAt n c ⌝ }
+{
+    72 + 144 * n as u32 + 72 * c as u32
+}
+
 // A station of the least time among the first unrun events, with that time.
 pub fn lowest(b: &[u8], n: u16, c: u16) -> Least
     ensures { λ r. ⌜ Finds n c (now (b .entry)) r ⌝ }
 {
     if fits(b, n, c) {
-        if 0 < n {
-            let end = 32832 + 64 * n as usize;
-            return calendar::lowest(&b[64..end]);
+        if 0 < c {
+            let start = calendar_start(n, c) as usize;
+            let end = start + 32768 + 64 * n as usize;
+            return calendar::lowest(&b[start..end]);
         }
     }
     Least::Refused(Refusal::Idle)

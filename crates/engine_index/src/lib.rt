@@ -30,7 +30,7 @@ pub fn in_range(n: u16, c: u16) -> bool
 pub fn links(n: u16, c: u16) -> u32
     ensures { λ r. ⌜ r ≡ linksAt n c ⌝ }
 {
-    32832 + 192 * n as u32 + 64 * c as u32
+    64 + 128 * n as u32 + 64 * c as u32
 }
 
 // How many nodes there are, where the numbers are in range; no test of that is made here.

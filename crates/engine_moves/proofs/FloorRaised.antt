@@ -1,5 +1,6 @@
 -- The calendar takes a new floor that lies after no held event.
 use mathlib.Core.Path.{_≡_, _∙_}
+use mathlib.Core.Logic.{inr}
 use mathlib.Core.List.{List}
 use Prim.Native.Nat.{ℕ, _+_, _-_, _*_, _≤_}
 use native.Mathlib.Omega.{arith}
@@ -17,7 +18,7 @@ use Rattle.calendar.specs.Promises.{Obeys}
 use Rattle.calendar.proofs.Tests.{any-false}
 use Rattle.engine_events.proofs.CalendarShown.{has-registered}
 use Rattle.engine_index.specs.Represents.{Cell}
-use Rattle.engine_events.specs.Represents.{part, Stores}
+use Rattle.engine_events.specs.Represents.{calendarAt, part, Stores}
 use Rattle.engine_events.specs.Promises.{AfterHeader}
 use Rattle.engine_moves.specs.Promises.{Raises}
 use Rattle.engine_events.proofs.CalendarPart.{Put, part-put}
@@ -30,6 +31,7 @@ stores-at : {p : Plan} {n c now : ℕ} {xs : List ℕ} {q : Queue} {cells : List
 stores-at floor f S =
     record {
       count = S .count;
+      some = S .some;
       long = S .long;
       configs = S .configs;
       states = S .states;
@@ -41,21 +43,22 @@ stores-at floor f S =
       kids = S .kids;
     }
 
-pub raised : (n c floor : ℕ) {end : ℕ} (xs zs : List ℕ) {r : Answer} → end ≡ 32832 + 64 * n → 32832 + 64 * n ≤ length xs
-    → length zs ≡ length (take (end - 64) (drop 64 xs))
-    → Obeys (λ q. advanceChecks q floor) (λ q. advanced q floor) (take (end - 64) (drop 64 xs)) r zs
-    → AfterHeader xs (putMid 64 (end - 64) xs zs) × Raises n c floor xs (putMid 64 (end - 64) xs zs)
-raised n c floor {end} xs zs {r} le long size O = (
+pub raised : (n c floor : ℕ) {start end : ℕ} (xs zs : List ℕ) {r : Answer} → start ≡ calendarAt n c → end ≡ start + 32768 + 64 * n
+    → end ≤ length xs
+    → length zs ≡ length (take (end - start) (drop start xs))
+    → Obeys (λ q. advanceChecks q floor) (λ q. advanced q floor) (take (end - start) (drop start xs)) r zs
+    → AfterHeader xs (putMid start (end - start) xs zs) × Raises n c floor xs (putMid start (end - start) xs zs)
+raised n c floor {start} {end} xs zs {r} ls le long size O = (
   frame-wider 64 (length xs) (omega arith) (omega arith) (put .1 .1),
   λ p now q cells H a b f.
       let C = H .calendar in
-      let O : Obeys (λ q. advanceChecks q floor) (λ q. advanced q floor) (part n xs) r zs = rw (put .0) at O in
-      let early = any-false floor (stateOf (part n xs) .times)
+      let O : Obeys (λ q. advanceChecks q floor) (λ q. advanced q floor) (part n c xs) r zs = rw (put .0) at O in
+      let early = any-false floor (stateOf (part n c xs) .times)
       (λ x u e. let g = registered-first x (q .held) u (has-registered x u (C .shows) e) in omega (arith, f (unrun (g .0)) (first-in (g .1)), g .2)) in
-      let done = accepted-done r (O .answer (C .sound) ∙ advance-accepted (stateOf (part n xs)) floor b (omega (arith, C .floor)) early) in
-      let state : stateOf zs ≡ advanced (stateOf (part n xs)) floor = O .state (C .sound) done in
+      let done = accepted-done r (O .answer (C .sound) ∙ advance-accepted (stateOf (part n c xs)) floor b (omega (arith, C .floor)) early) in
+      let state : stateOf zs ≡ advanced (stateOf (part n c xs)) floor = O .state (C .sound) done in
       record {
-        stores = stores-at floor f (stores-kept (put .1 .1) (omega arith) (H .stores));
+        stores = stores-at floor f (stores-kept (put .1 .1) (inr (omega arith)) (H .stores));
         calendar = record {
           sound = rw (put .1 .0) (O .sound (C .sound));
           floor = rw (put .1 .0, state);
@@ -64,8 +67,8 @@ raised n c floor {end} xs zs {r} le long size O = (
       },
 )
   where
-    put : (take (end - 64) (drop 64 xs) ≡ part n xs) × Put n xs zs (putMid 64 (end - 64) xs zs)
-    put = part-put n xs zs le long size
+    put : (take (end - start) (drop start xs) ≡ part n c xs) × Put n c xs zs (putMid start (end - start) xs zs)
+    put = part-put n c xs zs ls le long size
 
 pub raises-none : (n c floor : ℕ) (xs : List ℕ) → Nothing n c xs → AfterHeader xs xs × Raises n c floor xs xs
 raises-none n c floor xs N = (frame-same 64 (length xs) xs, λ p now q cells H _ _ _. absurd (N p now q cells H))

@@ -12,11 +12,12 @@ use Rattle.line.specs.Station.{Plan, InRange, initial, update, runEvent}
 use Rattle.rules.specs.Held.{Held, unrun, ran, event, In, Queue, same, unmark, delete, place, mark, some, leastUnrun}
 use Rattle.rules.specs.Engine.{opened}
 use Rattle.rules.specs.Undo.{NoneLater}
+use Rattle.calendar.specs.Bytes.{stateOf}
 use Rattle.engine_rows.specs.Layout.{stationRow}
 use Rattle.line.specs.Widths.{EventFits, StateFits}
 use Rattle.engine_records.specs.Records.{stateAt, storedConfig}
 use Rattle.engine_index.specs.Represents.{Cell, cell}
-use Rattle.engine_events.specs.Represents.{fitsIn, heldOf, Has, From, nonzero, Nodes, Holds}
+use Rattle.engine_events.specs.Represents.{fitsIn, part, heldOf, Has, From, nonzero, Nodes, Holds}
 
 -- the bytes hold q, in cells that were among these
 pub record Becomes (p : Plan) (n c now : ℕ) (ys : List ℕ) (q : Queue) (cells : List Cell) : Type 0 where
@@ -81,9 +82,9 @@ Raises n c floor xs ys =
     (p : Plan) (now : ℕ) (q : Queue) (cells : List Cell) → Holds p n c now xs q cells → now ≤ floor → floor ≤ suc horizon
     → ((y : Held) → In y (q .held) → floor ≤ event y .time) → Holds p n c floor ys q cells
 
--- no event is held, at the stations that stand there with their first states; whatever else the bytes held
+-- no event is held, at the stations that stand there with their first states, and the calendar has that leaf width; whatever else the bytes held
 abbrev pub ClearsEvents : ℕ → ℕ → ℕ → List ℕ → List ℕ → Type 0
 ClearsEvents n c width xs ys =
     (p : Plan) → p .count ≡ n → 1 ≤ n → 1 ≤ c → fitsIn n c (length xs) ≡ true → 1 ≤ width → width ≤ 1048576
     → ((s : ℕ) → s < n → storedConfig (stationRow n s) xs ≡ p .config s) → ((s : ℕ) → s < n → stateAt (stationRow n s + 32) xs ≡ initial p s)
-    → Holds p n c 0 ys (opened p c .queue) []
+    → Holds p n c 0 ys (opened p c .queue) [] × (stateOf (part n c ys) .width ≡ width)

@@ -9,4 +9,4 @@ use Rattle.engine_events.specs.Represents.{Stores, Untold, Holds}
 -- the calendar is told station s's least unrun event
 abbrev pub Tells : ℕ → ℕ → ℕ → List ℕ → List ℕ → Type 0
 Tells n c s xs ys =
-    (p : Plan) (now : ℕ) (q : Queue) (cells : List Cell) → Stores p n c now xs q cells → Untold n now s xs (q .held) → Holds p n c now ys q cells
+    (p : Plan) (now : ℕ) (q : Queue) (cells : List Cell) → Stores p n c now xs q cells → Untold n c now s xs (q .held) → Holds p n c now ys q cells

@@ -9,6 +9,7 @@ ghost use Prim.Native.Nat.{_+_, _*_, _≤_, _<_};
 ghost use lib.ListN.{length};
 ghost use Rattle.rings.specs.Table.{Frame};
 ghost use Rattle.engine_moves.specs.RunCount.{runsBelow};
+ghost use Rattle.engine_events.specs.Represents.{calendarAt, calendarBytes};
 ghost use Rattle.engine_events.specs.Promises.{AfterHeader};
 ghost use Rattle.engine_moves.specs.Steps.{Tells};
 ghost use Rattle.engine_moves.specs.Promises.{HoldsEvent, RunsEvent, UnrunsEvent, DiscardsEvent, ReleasesEvent, Raises, ClearsEvents};
@@ -19,18 +20,19 @@ use line::State;
 
 // The calendar is told the time of a station's first unrun event.
 fn tell(b: &mut [u8], n: u16, c: u16, s: u16)
-    requires { ⌜ (n ≤ 256) × (c ≤ 4096) × (s < n) × (32768 + 256 * n + 256 * c ≤ length (now b)) ⌝ }
-    ensures frame { λ _. ⌜ Frame 64 (32768 + 64 * n) (now (b .entry)) (now (b .exit)) ⌝ }
+    requires { ⌜ (n ≤ 256) × (1 ≤ c) × (c ≤ 4096) × (s < n) × (32768 + 256 * n + 256 * c ≤ length (now b)) ⌝ }
+    ensures frame { λ _. ⌜ Frame (calendarAt n c) (calendarBytes n) (now (b .entry)) (now (b .exit)) ⌝ }
     ensures tells { λ _. ⌜ Tells n c s (now (b .entry)) (now (b .exit)) ⌝ }
 {
-    let end = 32832 + 64 * n as usize;
+    let start = engine_events::calendar_start(n, c) as usize;
+    let end = start + 32768 + 64 * n as usize;
     let x = engine_index::next(b, n, c, s);
     if x == s {
-        calendar::unregister(&mut b[64..end], s as u64);
+        calendar::unregister(&mut b[start..end], s as u64);
         return;
     }
     let t = engine_rows::time(b, n, engine_index::slot(n, x));
-    calendar::register(&mut b[64..end], s as u64, t);
+    calendar::register(&mut b[start..end], s as u64, t);
 }
 
 // ---- the changes
@@ -43,9 +45,11 @@ pub fn hold(b: &mut [u8], n: u16, c: u16, e: Event) -> u16
     if engine_events::fits(b, n, c) {
         let t = e.target;
         if t < n {
-            let x = engine_filing::put(b, n, c, e);
-            tell(b, n, c, t);
-            return x;
+            if 0 < c {
+                let x = engine_filing::put(b, n, c, e);
+                tell(b, n, c, t);
+                return x;
+            }
         }
     }
     0
@@ -133,9 +137,10 @@ pub fn raise(b: &mut [u8], n: u16, c: u16, floor: u64)
     ensures raises { λ _. ⌜ Raises n c floor (now (b .entry)) (now (b .exit)) ⌝ }
 {
     if engine_events::fits(b, n, c) {
-        if 0 < n {
-            let end = 32832 + 64 * n as usize;
-            calendar::advance(&mut b[64..end], floor);
+        if 0 < c {
+            let start = engine_events::calendar_start(n, c) as usize;
+            let end = start + 32768 + 64 * n as usize;
+            calendar::advance(&mut b[start..end], floor);
         }
     }
 }
@@ -146,9 +151,10 @@ pub fn clear(b: &mut [u8], n: u16, c: u16, width: u64)
     ensures clears { λ _. ⌜ ClearsEvents n c width (now (b .entry)) (now (b .exit)) ⌝ }
 {
     if engine_events::fits(b, n, c) {
-        if 0 < n {
-            let end = 32832 + 64 * n as usize;
-            calendar::open(n as u64, width, &mut b[64..end]);
+        if 0 < c {
+            let start = engine_events::calendar_start(n, c) as usize;
+            let end = start + 32768 + 64 * n as usize;
+            calendar::open(n as u64, width, &mut b[start..end]);
             engine_freeing::clear(b, n, c);
         }
     }

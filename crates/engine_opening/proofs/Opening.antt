@@ -111,7 +111,7 @@ module _ {plan : List ℕ} {n c width : ℕ} {xs ys zs : List ℕ} (e : judging 
   size = length-headed n c ys ∙ B .size
 
   holds : Holds (lineOf plan) n c 0 zs (opened (lineOf plan) c .queue) []
-  holds = C (lineOf plan) counts (a .some) (omega arith) (fits-in n c (length (headed n c ys)) (a .most) k (rw size l)) g h configs states
+  holds = C (lineOf plan) counts (a .some) (omega arith) (fits-in n c (length (headed n c ys)) (a .most) k (rw size l)) g h configs states .0
 
   long : 64 ≤ length ys
   long = omega (arith, B .size)

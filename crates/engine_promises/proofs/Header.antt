@@ -6,8 +6,7 @@ use mathlib.Core.List.{List}
 use Prim.Native.Nat.{ℕ, _+_, _*_, _^_, _≤_, _<_}
 use native.Mathlib.Omega.{arith}
 use borrow.Author.Tests.{le-ltb}
-use lib.ListN.{length, getD, drop, length-take, length-drop}
-use lib.Seq.{getD-take, getD-drop, ext-getD}
+use lib.ListN.{length}
 use Rattle.words.specs.Le.{loadAt, storeAt}
 use Rattle.words.proofs.Laws.{load-stored, load-other}
 use Rattle.line.specs.Station.{Plan}
@@ -19,7 +18,7 @@ use Rattle.engine_rows.proofs.Rows.{words}
 use Rattle.engine_index.specs.Represents.{Cell}
 use Rattle.engine_events.specs.Represents.{part, fitsIn, Holds}
 use Rattle.engine_events.specs.Promises.{AfterHeader}
-use Rattle.engine_events.proofs.CalendarPart.{byte-kept}
+use Rattle.engine_events.proofs.CalendarPart.{part-kept}
 use Rattle.engine_events.proofs.StationsKept.{stores-kept}
 use Rattle.engine_events.proofs.Fitting.{stores-fit}
 use Rattle.engine_promises.specs.Represents.{Represents}
@@ -42,24 +41,13 @@ header-kept F i h = F .loads 8 (8 * i) (inr (omega arith))
 
 -- ---- what lies after
 
-part-same : {xs ys : List ℕ} (n : ℕ) → Frame 0 64 xs ys → part n ys ≡ part n xs
-part-same {xs} {ys} n F =
-    ext-getD 0 (part n ys) (part n xs) (simp (length-take, length-drop) (rw (F .size)))
-    (λ i p. at i ys (omega (arith, long ys)) ∙ byte-kept (64 + i) F (inl (omega arith)) ∙ sym (at i xs (omega (arith, long ys))))
-  where
-    long : (zs : List ℕ) → length (part n zs) ≤ 32768 + 64 * n
-    long zs = simp (length-take, length-drop) (omega arith)
-
-    at : (i : ℕ) (zs : List ℕ) → i < 32768 + 64 * n → getD (part n zs) i 0 ≡ getD zs (64 + i) 0
-    at i zs p = getD-take (32768 + 64 * n) (drop 64 zs) i 0 p ∙ getD-drop 64 zs i 0
-
 pub header-holds : {p : Plan} {n c now : ℕ} {xs ys : List ℕ} {q : Queue} {cells : List Cell} → Frame 0 64 xs ys → Holds p n c now xs q cells
     → Holds p n c now ys q cells
-header-holds {n = n} {xs = xs} {ys = ys} F H =
-    let e : part n ys ≡ part n xs = part-same n F in
+header-holds {n = n} {c = c} {xs = xs} {ys = ys} F H =
+    let e : part n c ys ≡ part n c xs = part-kept n c F (omega arith) in
     let C = H .calendar in
     record {
-      stores = stores-kept F (omega arith) (H .stores);
+      stores = stores-kept F (inl (omega arith)) (H .stores);
       calendar = record { sound = rw e (C .sound); floor = rw e (C .floor); shows = rw e (C .shows) };
     }
 

@@ -52,7 +52,7 @@ module _ (n : ℕ) where
   pub stations : (s t : ℕ) → (s ≡ t → ⊥) → Apart (stationRow n s) 128 (stationRow n t) 128
   stations s t ne = beside (number 128 (stationRow n s)) (number 128 (stationRow n t)) (λ l. omega arith)
 
-  -- bytes before the rows: the header, and the calendar's part
+  -- bytes before the rows: the header
   pub before-station : (a w s : ℕ) → a + w ≤ stationRow n 0 → Apart a w (stationRow n s) 128
   before-station a w s h = inl (omega arith)
 

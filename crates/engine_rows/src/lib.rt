@@ -1,9 +1,9 @@
 // The engine's header, stations and slots in its lent buffer, each record by itself. Nothing here knows what they mean to each other.
 //
-// Layout, little-endian, for N stations. Header: eight words of 64 bits. From byte 64 on the calendar's part, 32768 + 64 N bytes. Then a row of 128
-// bytes for each station: its numbers of the plan in the first 28 bytes, its state from byte 32 on. Then a row of 64 bytes for each slot: the event in
-// the 24 bytes that a commit writes, from byte 24 on the state from before it (its checkpoint), from byte 56 on four numbers of 16 bits: the slots of
-// its sends, its status, and one that is free. What stands after the slots is the links' (crate rings).
+// Layout, little-endian. Header: eight words of 64 bits. From byte 64 on a row of 128 bytes for each station: its numbers of the plan in the first 28
+// bytes, its state from byte 32 on. Then a row of 64 bytes for each slot: the event in the 24 bytes that a commit writes, from byte 24 on the state from
+// before it (its checkpoint), from byte 56 on four numbers of 16 bits: the slots of its sends, its status, and one that is free. After the slots stand the
+// links (crate engine_index), and after those the calendar's part (crate engine_events).
 
 ghost use mathlib.Core.Path.{_≡_};
 ghost use Prim.Native.Nat.{_+_, _*_, _≤_, _<_};
@@ -42,13 +42,13 @@ pub fn set_header(b: &mut [u8], i: u16, v: u64)
 fn station_row(n: u16, s: u16) -> u32
     ensures { λ r. ⌜ (r ≡ stationRow n s) × (r < 16777216) ⌝ }
 {
-    32832 + 64 * n as u32 + 128 * s as u32
+    64 + 128 * s as u32
 }
 
 fn slot_row(n: u16, i: u16) -> u32
     ensures { λ r. ⌜ (r ≡ slotRow n i) × (r < 33554432) ⌝ }
 {
-    32832 + 192 * n as u32 + 64 * i as u32
+    64 + 128 * n as u32 + 64 * i as u32
 }
 
 // ---- stations

@@ -159,8 +159,8 @@ fn damage(seed: u64) -> u64 {
         }
         2 => {
             // small numbers in the links and slots, so that they lead somewhere
-            let from = 32 + 32_832 + 64 * line.len();
-            all[from..size + 32].iter_mut().for_each(|b| *b = if dice.one_in(2) { 0 } else { dice.below(8) as u8 });
+            let (from, to) = (32 + 64, 32 + 72 + 144 * line.len() + 72 * capacity);
+            all[from..to].iter_mut().for_each(|b| *b = if dice.one_in(2) { 0 } else { dice.below(8) as u8 });
         }
         _ => {
             for _ in 0..1 + dice.below(20) {
@@ -218,7 +218,7 @@ fn cascade() -> u64 {
     for _ in 0..2_000 {
         buffer.copy_from_slice(&sound);
         for _ in 0..1 + dice.below(400) {
-            let at = 32_832 + 192 * 256 + dice.below(64 * 300) as usize;
+            let at = 64 + 128 * 256 + dice.below(64 * 300) as usize;
             buffer[at] = if dice.one_in(2) { dice.below(4) as u8 } else { dice.below(256) as u8 };
         }
         let mut engine = Engine::resume(&mut buffer);

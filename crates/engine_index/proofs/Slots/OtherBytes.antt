@@ -7,6 +7,7 @@ use native.Mathlib.Decide.{ℕ-discrete, decLt}
 use native.Mathlib.Nat.{add-zero}
 use native.Mathlib.Omega.{arith}
 use Rattle.words.specs.Le.{loadAt, storeAt}
+use Rattle.line.specs.Order.{All}
 use Rattle.rules.specs.Held.{Held, unrun, ran}
 use Rattle.rings.specs.Table.{Outside, Frame}
 use Rattle.rings.specs.Ring.{occurs, inRings}
@@ -79,13 +80,25 @@ module _ (n c z : ℕ) (xs ys : List ℕ) (L : (i : ℕ) → 2 * n < i → i < n
 
 -- ---- the cells
 
-module _ {n c : ℕ} {xs ys : List ℕ} {cells : List Cell} {free : List ℕ} {a l : ℕ} (F : Frame a l xs ys) (S : Stands n c xs cells free)
-    (links : Outside a l (linksAt n c) (4 * nodesOf n c)) (log : Outside a l (logAt n c) (4 * nodesOf n c))
-    (L : (i : ℕ) → 2 * n < i → i < nodesOf n c → Alike n i xs ys) where
+module _ {n c : ℕ} {xs : List ℕ} {cells : List Cell} {free : List ℕ} (S : Stands n c xs cells free) where
   -- a number of no node is in no ring
   gone : inRings (2 * n + 1) (contents n cells free) (nodesOf n c) ≡ 0
   gone = free-all (2 * n + 1) (contents n cells free) (nodesOf n c) (λ u h. S .rings .ring u h .within (nodesOf n c) (omega arith))
 
+  nodes-below : Others n c (nodesOf n c) cells
+  nodes-below = others n c (nodesOf n c) cells free (S .rings) gone xs (S .stored)
+
+  -- each cell has one of the c slots
+  pub slots-below : All (λ y. slotOf n (y .node) < c) cells
+  slots-below = go cells nodes-below (S .stored)
+    where
+      go : (ys : List Cell) → Others n c (nodesOf n c) ys → Stored n xs ys → All (λ y. slotOf n (y .node) < c) ys
+      go [] a T = tt
+      go (y ∷ ys) a T = (omega (arith, a .0 .0, T .1), go ys (a .1) (T .3))
+
+module _ {n c : ℕ} {xs ys : List ℕ} {cells : List Cell} {free : List ℕ} {a l : ℕ} (F : Frame a l xs ys) (S : Stands n c xs cells free)
+    (links : Outside a l (linksAt n c) (4 * nodesOf n c)) (log : Outside a l (logAt n c) (4 * nodesOf n c))
+    (L : (i : ℕ) → 2 * n < i → i < nodesOf n c → Alike n i xs ys) where
   stands-alike : Stands n c ys cells free
   stands-alike =
       record {
@@ -94,8 +107,8 @@ module _ {n c : ℕ} {xs ys : List ℕ} {cells : List Cell} {free : List ℕ} {a
         room = rw (F .size) (S .room);
         rings = rings-elsewhere F links (S .rings);
         log = rings-elsewhere F log (S .log);
-        stored = stored-alike n c (nodesOf n c) xs ys L cells (others n c (nodesOf n c) cells free (S .rings) gone xs (S .stored)) (S .stored);
-        unused = free-alike n c (nodesOf n c) xs ys L free (others-free n c (nodesOf n c) cells free (S .rings) gone) (S .unused);
+        stored = stored-alike n c (nodesOf n c) xs ys L cells (nodes-below S) (S .stored);
+        unused = free-alike n c (nodesOf n c) xs ys L free (others-free n c (nodesOf n c) cells free (S .rings) (gone S)) (S .unused);
         sorted = S .sorted;
       }
 

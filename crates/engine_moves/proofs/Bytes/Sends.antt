@@ -48,6 +48,7 @@ module _ {p : Plan} {n c now : ℕ} {xs : List ℕ} {q : Queue} {cells : List Ce
       let F = store-frame 2 (slotRow n (slotOf n x) + 56 + 2 * k) v xs in
       record {
         count = S .count;
+        some = S .some;
         long = rw (F .size) (S .long);
         configs = λ s b. config-kept n s b F (omega arith) ∙ S .configs s b;
         states = λ s b. state-kept n s b F (omega arith) ∙ S .states s b;

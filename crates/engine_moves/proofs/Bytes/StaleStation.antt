@@ -1,4 +1,4 @@
--- What the calendar still shows after a change after it: all but the station of the event that changed.
+-- What the calendar still shows after a change before it: all but the station of the event that changed.
 use mathlib.Core.Path.{_≡_}
 use mathlib.Core.Logic.{_≢_}
 use mathlib.Core.List.{List}
@@ -8,8 +8,8 @@ use Rattle.engine_events.specs.Shows.{Inside}
 use Rattle.engine_events.proofs.CalendarShown.{same-shows}
 use Rattle.engine_events.specs.Represents.{part, Calendared, Untold}
 
-module _ {n now : ℕ} {xs ys : List ℕ} {h : List Held} (k : List Held) (C : Calendared n now xs h) (e : part n ys ≡ part n xs) (i : Inside n k) where
-  pub untold : (s : ℕ) → ((t : ℕ) → t ≢ s → registered k t ≡ registered h t) → Untold n now s ys k
+module _ {n c now : ℕ} {xs ys : List ℕ} {h : List Held} (k : List Held) (C : Calendared n c now xs h) (e : part n c ys ≡ part n c xs) (i : Inside n k) where
+  pub untold : (s : ℕ) → ((t : ℕ) → t ≢ s → registered k t ≡ registered h t) → Untold n c now s ys k
   untold s f = record {
     sound = rw e (C .sound);
     floor = rw e (C .floor);
@@ -18,5 +18,5 @@ module _ {n now : ℕ} {xs ys : List ℕ} {h : List Held} (k : List Held) (C : C
     inside = i;
   }
 
-  pub still-told : ((t : ℕ) → registered k t ≡ registered h t) → Calendared n now ys k
+  pub still-told : ((t : ℕ) → registered k t ≡ registered h t) → Calendared n c now ys k
   still-told f = record { sound = rw e (C .sound); floor = rw e (C .floor); shows = rw e (same-shows k (C .shows) i f) }

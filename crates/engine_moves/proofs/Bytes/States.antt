@@ -37,6 +37,7 @@ module _ {p : Plan} {n c now : ℕ} {xs : List ℕ} {q : Queue} {cells : List Ce
   pub state-stores : Stores p n c now set (record { states = update (q .states) t v; held = q .held }) cells
   state-stores = record {
     count = S .count;
+    some = S .some;
     long = rw (length-state (stationRow n t + 32) v xs) (S .long);
     configs = λ s b.
         read-beside (state (stationRow n t + 32)) (config (stationRow n s)) v xs

@@ -1,6 +1,6 @@
 -- The node after a station's sentinel tells the time at which the calendar has to have the station.
 use mathlib.Core.Path.{_≡_, refl, sym, ap, _∙_, subst}
-use mathlib.Core.Logic.{_≢_}
+use mathlib.Core.Logic.{_≢_, inr}
 use mathlib.Core.Option.{Option, none, some}
 use mathlib.Core.List.{List, [], _∷_, _++_}
 use Prim.Native.Nat.{ℕ, _+_, _-_, _*_, _≤_, _<_}
@@ -32,7 +32,7 @@ use Rattle.engine_index.proofs.Rings.RingSearches as search
 use Rattle.engine_index.proofs.Rings.RingSearches.{First, first, waits}
 use Rattle.engine_index.proofs.Changes.ToRules as rules
 use Rattle.engine_index.proofs.Changes.ToRules.{least-some, least-none}
-use Rattle.engine_events.specs.Represents.{part, heldOf, Calendared, Untold}
+use Rattle.engine_events.specs.Represents.{calendarAt, calendarBytes, part, heldOf, Calendared, Untold}
 use Rattle.engine_moves.specs.Steps.{Tells}
 use Rattle.engine_events.proofs.CalendarPart.{Put, part-put}
 use Rattle.engine_events.proofs.StationsKept.{stores-kept}
@@ -86,20 +86,20 @@ module _ {n c : ℕ} {xs : List ℕ} {free : List ℕ} (s : ℕ) (l : s < n) whe
 
 -- ---- the calendar is told
 
-module _ {n now s : ℕ} {xs : List ℕ} {h : List Held} (o : Option ℕ) (l : s < n) (U : Untold n now s xs h) (r : asTime (registered h s) ≡ o) where
-  each-told : (t : ℕ) → t < n → Which t s → getD (set (stateOf (part n xs) .times) s o) t none ≡ asTime (registered h t)
+module _ {n c now s : ℕ} {xs : List ℕ} {h : List Held} (o : Option ℕ) (l : s < n) (U : Untold n c now s xs h) (r : asTime (registered h s) ≡ o) where
+  each-told : (t : ℕ) → t < n → Which t s → getD (set (stateOf (part n c xs) .times) s o) t none ≡ asTime (registered h t)
   each-told t m (this e _) =
-      subst (λ (u : ℕ). getD (set (stateOf (part n xs) .times) s o) u none ≡ asTime (registered h u)) (sym e)
-      (getD-set-same (stateOf (part n xs) .times) s o none (omega (arith, U .size)) ∙ sym r)
-  each-told t m (other d _) = getD-set-other (stateOf (part n xs) .times) s t o none d ∙ U .others t m d
+      subst (λ (u : ℕ). getD (set (stateOf (part n c xs) .times) s o) u none ≡ asTime (registered h u)) (sym e)
+      (getD-set-same (stateOf (part n c xs) .times) s o none (omega (arith, U .size)) ∙ sym r)
+  each-told t m (other d _) = getD-set-other (stateOf (part n c xs) .times) s t o none d ∙ U .others t m d
 
-  pub told : {zs : List ℕ} (ys : List ℕ) → part n ys ≡ zs → Sound zs → stateOf zs ≡ withTime (stateOf (part n xs)) s o → Calendared n now ys h
+  pub told : {zs : List ℕ} (ys : List ℕ) → part n c ys ≡ zs → Sound zs → stateOf zs ≡ withTime (stateOf (part n c xs)) s o → Calendared n c now ys h
   told ys P Z q =
       record {
         sound = rw P Z;
         floor = rw (P, q) (U .floor);
         shows = rw (P, q) record {
-          length-is = length-set (stateOf (part n xs) .times) s o ∙ U .size;
+          length-is = length-set (stateOf (part n c xs) .times) s o ∙ U .size;
           each = λ t m. each-told t m (which t s);
           inside = U .inside;
         };
@@ -107,46 +107,47 @@ module _ {n now s : ℕ} {xs : List ℕ} {h : List Held} (o : Option ℕ) (l : s
 
 -- ---- the two ways of the code
 
-abbrev After : ℕ → ℕ → ℕ → ℕ → List ℕ → List ℕ → Type 0
-After n c s end xs zs = Frame 64 (32768 + 64 * n) xs (putMid 64 (end - 64) xs zs) × Tells n c s xs (putMid 64 (end - 64) xs zs)
+abbrev After : ℕ → ℕ → ℕ → ℕ → ℕ → List ℕ → List ℕ → Type 0
+After n c s start end xs zs =
+    Frame (calendarAt n c) (calendarBytes n) xs (putMid start (end - start) xs zs) × Tells n c s xs (putMid start (end - start) xs zs)
 
-module _ (n c s : ℕ) {end x : ℕ} (xs zs : List ℕ) (b : s < n) (le : end ≡ 32832 + 64 * n) (long : 32832 + 64 * n ≤ length xs)
-    (size : length zs ≡ length (take (end - 64) (drop 64 xs))) (next : x ≡ nextOf xs (linksAt n c) s) where
-  pub tell-none : {r : Answer} → x ≡ s → Obeys (λ q. unregisterChecks q s) (λ q. unregistered q s) (take (end - 64) (drop 64 xs)) r zs → After n c s end xs zs
+module _ (n c s : ℕ) {start end x : ℕ} (xs zs : List ℕ) (b : s < n) (ls : start ≡ calendarAt n c) (le : end ≡ start + 32768 + 64 * n) (long : end ≤ length xs)
+    (size : length zs ≡ length (take (end - start) (drop start xs))) (next : x ≡ nextOf xs (linksAt n c) s) where
+  pub tell-none : {r : Answer} → x ≡ s → Obeys (λ q. unregisterChecks q s) (λ q. unregistered q s) (take (end - start) (drop start xs)) r zs → After n c s start end xs zs
   tell-none {r} e O = (
     put .1 .1,
     λ p now q cells S U.
-        let O : Obeys (λ q. unregisterChecks q s) (λ q. unregistered q s) (part n xs) r zs = rw (put .0) at O in
-        let done = accepted-done r (O .answer (U .sound) ∙ unregister-accepted (stateOf (part n xs)) s (omega (arith, U .size))) in
+        let O : Obeys (λ q. unregisterChecks q s) (λ q. unregistered q s) (part n c xs) r zs = rw (put .0) at O in
+        let done = accepted-done r (O .answer (U .sound) ∙ unregister-accepted (stateOf (part n c xs)) s (omega (arith, U .size))) in
         let gone : registered (q .held) s ≡ absent = rw (S .held) at (none-waits s b cells (S .stands) (sym next ∙ e)) in
         record {
-          stores = stores-kept (put .1 .1) (omega arith) S;
+          stores = stores-kept (put .1 .1) (inr (omega arith)) S;
           calendar =
-              told none b U (absent-time (registered (q .held) s) gone) (putMid 64 (end - 64) xs zs) (put .1 .0) (O .sound (U .sound)) (O .state (U .sound) done);
+              told none b U (absent-time (registered (q .held) s) gone) (putMid start (end - start) xs zs) (put .1 .0) (O .sound (U .sound)) (O .state (U .sound) done);
         },
   )
     where
-      put : (take (end - 64) (drop 64 xs) ≡ part n xs) × Put n xs zs (putMid 64 (end - 64) xs zs)
-      put = part-put n xs zs le long size
+      put : (take (end - start) (drop start xs) ≡ part n c xs) × Put n c xs zs (putMid start (end - start) xs zs)
+      put = part-put n c xs zs ls le long size
 
   pub tell-time : {r : Answer} {i t : ℕ} → x ≢ s → i ≡ slotOf n x → t ≡ loadAt 8 (slotRow n i) xs
-      → Obeys (λ q. registerChecks q s t) (λ q. entered q s t) (take (end - 64) (drop 64 xs)) r zs → After n c s end xs zs
+      → Obeys (λ q. registerChecks q s t) (λ q. entered q s t) (take (end - start) (drop start xs)) r zs → After n c s start end xs zs
   tell-time {r} {i} {t} d ei et O = (
     put .1 .1,
     λ p now q cells S U.
-        let O : Obeys (λ q. registerChecks q s t) (λ q. entered q s t) (part n xs) r zs = rw (put .0) at O in
+        let O : Obeys (λ q. registerChecks q s t) (λ q. entered q s t) (part n c xs) r zs = rw (put .0) at O in
         let time : t ≡ loadAt 8 (slotRow n (slotOf n (nextOf xs (linksAt n c) s))) xs = et ∙ rw (ei, next) in
         let is : registered (q .held) s ≡ at t = rw (S .held, ← time) at (first-waits s b cells (S .stands) (λ z. d (next ∙ z))) in
         let f = registered-first s (q .held) t is in
         let k = S .times (unrun (f .0)) (held-in (f .1)) in
         let done = accepted-done r (O .answer (U .sound)
-        ∙ register-accepted (stateOf (part n xs)) s t (omega (arith, U .size)) (omega (arith, k .1, f .2)) (omega (arith, k .0, f .2, U .floor))) in
+        ∙ register-accepted (stateOf (part n c xs)) s t (omega (arith, U .size)) (omega (arith, k .1, f .2)) (omega (arith, k .0, f .2, U .floor))) in
         record {
-          stores = stores-kept (put .1 .1) (omega arith) S;
+          stores = stores-kept (put .1 .1) (inr (omega arith)) S;
           calendar =
-              told (some t) b U (at-time (registered (q .held) s) t is) (putMid 64 (end - 64) xs zs) (put .1 .0) (O .sound (U .sound)) (O .state (U .sound) done);
+              told (some t) b U (at-time (registered (q .held) s) t is) (putMid start (end - start) xs zs) (put .1 .0) (O .sound (U .sound)) (O .state (U .sound) done);
         },
   )
     where
-      put : (take (end - 64) (drop 64 xs) ≡ part n xs) × Put n xs zs (putMid 64 (end - 64) xs zs)
-      put = part-put n xs zs le long size
+      put : (take (end - start) (drop start xs) ≡ part n c xs) × Put n c xs zs (putMid start (end - start) xs zs)
+      put = part-put n c xs zs ls le long size

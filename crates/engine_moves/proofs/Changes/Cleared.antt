@@ -20,7 +20,7 @@ use Rattle.engine_events.proofs.CalendarShown.{opened-shows}
 use Rattle.engine_index.specs.Layout.{indexBytes}
 use Rattle.engine_index.specs.Opening as index
 use Rattle.engine_index.specs.Opening.{places}
-use Rattle.engine_events.specs.Represents.{fitsIn, part}
+use Rattle.engine_events.specs.Represents.{fitsIn, calendarAt, calendarBytes, part}
 use Rattle.engine_events.specs.Promises.{AfterHeader}
 use Rattle.engine_moves.specs.Promises.{ClearsEvents}
 use Rattle.engine_events.proofs.CalendarPart.{Put, part-put, part-kept}
@@ -32,48 +32,51 @@ unfolding places
 length-places n zero = refl
 length-places n (suc c) = length-append (places n c) ((2 * n + 1 + c) ∷ []) ∙ (let h : length (places n c) ≡ c = length-places n c in omega arith)
 
-pub cleared : (n c width : ℕ) {end : ℕ} (xs zs ys : List ℕ) {r : Answer} → 0 < n → n ≤ 256 → c ≤ 4096 → 32768 + 256 * n + 256 * c ≤ length xs
-    → end ≡ 32832 + 64 * n → length zs ≡ length (take (end - 64) (drop 64 xs)) → Opens n width (take (end - 64) (drop 64 xs)) r zs
-    → Frame (slotRow n 0) (indexBytes n c) (putMid 64 (end - 64) xs zs) ys → index.Clears n c (putMid 64 (end - 64) xs zs) ys
+pub cleared : (n c width : ℕ) {start end : ℕ} (xs zs ys : List ℕ) {r : Answer} → 0 < c → n ≤ 256 → c ≤ 4096 → 32768 + 256 * n + 256 * c ≤ length xs
+    → start ≡ calendarAt n c → end ≡ start + 32768 + 64 * n → length zs ≡ length (take (end - start) (drop start xs)) → Opens n width (take (end - start) (drop start xs)) r zs
+    → Frame (slotRow n 0) (indexBytes n c) (putMid start (end - start) xs zs) ys → index.Clears n c (putMid start (end - start) xs zs) ys
     → AfterHeader xs ys × ClearsEvents n c width xs ys
 unfolding opened
-cleared n c width {end} xs zs ys {r} some few slots long le size O F K = (
+cleared n c width {start} {end} xs zs ys {r} some few slots long ls le size O F K = (
   frame-on (frame-wider 64 (length xs) (omega arith) (omega arith) G) (frame-wider 64 (length xs) (omega arith) (omega arith) F),
   λ p count a b f w v configs states.
-      let O : Opens n width (part n xs) r zs = rw (put .0) at O in
-      let long-part : length (part n xs) ≡ 32768 + 64 * n = length-take-le (32768 + 64 * n) (drop 64 xs) (omega (arith, length-drop 64 xs)) in
-      let done = accepted-done r (O .answer ∙ open-accepted n width (length (part n xs)) a few w v (omega arith)) in
-      let left : part n ys ≡ zs = part-kept n F (omega arith) ∙ put .1 .0 in
-      let state : stateOf zs ≡ calendar.opened n width = O .state done in
-      record {
-        stores = record {
-          count = count;
-          long = omega (arith, F .size, G .size);
-          configs = λ s l. config-kept F (stationRow n s) (inr (omega arith)) ∙ config-kept G (stationRow n s) (inl (omega arith)) ∙ configs s l;
-          states = λ s l. state-kept F (stationRow n s + 32) (inr (omega arith)) ∙ state-kept G (stationRow n s + 32) (inl (omega arith)) ∙ states s l;
-          free = places n c;
-          stands = K few slots (omega (arith, G .size));
-          places = omega (arith, length-places n c);
-          held = refl;
-          times = λ y m. absurd (List·Memᴰ·not-nil m);
-          kids = λ x e b m. absurd (List·Memᴰ·not-nil m);
-        };
-        calendar = record {
-          sound = rw left (O .sound done);
-          floor = rw (left, state);
-          shows = rw (left, state) (opened-shows n);
-        };
-      },
+      let O : Opens n width (part n c xs) r zs = rw (put .0) at O in
+      let long-part : length (part n c xs) ≡ calendarBytes n = length-take-le (calendarBytes n) (drop (calendarAt n c) xs) (omega (arith, length-drop (calendarAt n c) xs)) in
+      let done = accepted-done r (O .answer ∙ open-accepted n width (length (part n c xs)) a few w v (omega arith)) in
+      let left : part n c ys ≡ zs = part-kept n c F (omega arith) ∙ put .1 .0 in
+      let state : stateOf zs ≡ calendar.opened n width = O .state done in (
+        record {
+          stores = record {
+            count = count;
+            some = b;
+            long = omega (arith, F .size, G .size);
+            configs = λ s l. config-kept F (stationRow n s) (inr (omega arith)) ∙ config-kept G (stationRow n s) (inr (omega arith)) ∙ configs s l;
+            states = λ s l. state-kept F (stationRow n s + 32) (inr (omega arith)) ∙ state-kept G (stationRow n s + 32) (inr (omega arith)) ∙ states s l;
+            free = places n c;
+            stands = K few slots (omega (arith, G .size));
+            places = omega (arith, length-places n c);
+            held = refl;
+            times = λ y m. absurd (List·Memᴰ·not-nil m);
+            kids = λ x e b m. absurd (List·Memᴰ·not-nil m);
+          };
+          calendar = record {
+            sound = rw left (O .sound done);
+            floor = rw (left, state);
+            shows = rw (left, state) (opened-shows n);
+          };
+        },
+        rw (left, state),
+      ),
 )
   where
-    put : (take (end - 64) (drop 64 xs) ≡ part n xs) × Put n xs zs (putMid 64 (end - 64) xs zs)
-    put = part-put n xs zs le (omega arith) size
+    put : (take (end - start) (drop start xs) ≡ part n c xs) × Put n c xs zs (putMid start (end - start) xs zs)
+    put = part-put n c xs zs ls le (omega arith) size
 
-    G : Frame 64 (32768 + 64 * n) xs (putMid 64 (end - 64) xs zs)
+    G : Frame (calendarAt n c) (calendarBytes n) xs (putMid start (end - start) xs zs)
     G = put .1 .1
 
 pub clears-fits : (n c width : ℕ) (xs : List ℕ) {r : Bool} → r ≡ fitsIn n c (length xs) → r ≡ false → AfterHeader xs xs × ClearsEvents n c width xs xs
 clears-fits n c width xs e z = (frame-same 64 (length xs) xs, λ p _ _ _ f _ _ _ _. absurd (true≢false (sym f ∙ sym e ∙ z)))
 
-pub clears-station : (n c width : ℕ) (xs : List ℕ) → n ≤ 0 → AfterHeader xs xs × ClearsEvents n c width xs xs
-clears-station n c width xs z = (frame-same 64 (length xs) xs, λ p _ a _ _ _ _ _ _. absurd (omega arith))
+pub clears-slot : (n c width : ℕ) (xs : List ℕ) → c ≤ 0 → AfterHeader xs xs × ClearsEvents n c width xs xs
+clears-slot n c width xs z = (frame-same 64 (length xs) xs, λ p _ _ a _ _ _ _ _. absurd (omega arith))

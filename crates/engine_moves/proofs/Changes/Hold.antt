@@ -47,7 +47,7 @@ module _ (n c : ℕ) (e : Event) (r : ℕ) {xs ys zs : List ℕ} (F : Frame (slo
       let size : length (A ++ y ∷ B) + length fs ≡ c = omega (arith, length-middle A y B, S .places, ap length free) in
       let G = index-stores (A ++ y ∷ B) fs (place e (q .held)) S F D size held (subst (Times now) held times) kids in
       let U =
-      untold (place e (q .held)) (H .calendar) (part-kept n F (omega arith)) (subst (Inside n) held (stands-inside D)) (e .target) (place-elsewhere e (q .held)) in
+      untold (place e (q .held)) (H .calendar) (part-kept n c F (omega arith)) (subst (Inside n) held (stands-inside D)) (e .target) (place-elsewhere e (q .held)) in
       record { after = A ++ y ∷ B; holds = T p now _ (A ++ y ∷ B) G U; from = from-join A y B }
     where
       joined : Times now (heldOf (A ++ B)) → Times now (unrun e ∷ heldOf (A ++ B))

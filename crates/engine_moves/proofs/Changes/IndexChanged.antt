@@ -51,6 +51,7 @@ pub index-stores : {p : Plan} {n c now : ℕ} {xs ys : List ℕ} {q : Queue} {ce
     → Times now held → Kids p n ys new → Stores p n c now ys (record { states = q .states; held = held }) new
 index-stores {n = n} new free held S F T l e t k = record {
   count = S .count;
+  some = S .some;
   long = rw (F .size) (S .long);
   configs = λ s b. config-kept n s b F (omega arith) ∙ S .configs s b;
   states = λ s b. state-kept n s b F (omega arith) ∙ S .states s b;

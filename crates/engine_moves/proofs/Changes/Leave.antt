@@ -76,7 +76,7 @@ module _ (n c x : ℕ) {xs ys : List ℕ} (F : Frame (slotRow n 0) (indexBytes n
           held-map (A ++ B) ∙ delete-cells A y B (S .stands .sorted) ∙ ap (delete e) (sym (held-map (A ++ y ∷ B)) ∙ S .held) in
           let G = gone-stores p now q A B y (x ∷ S .free) (delete e (q .held)) S refl D held away in
           let U =
-          untold (delete e (q .held)) (K .calendar) (part-kept n F (omega arith)) (subst (Inside n) held (stands-inside D)) (e .target)
+          untold (delete e (q .held)) (K .calendar) (part-kept n c F (omega arith)) (subst (Inside n) held (stands-inside D)) (e .target)
           (delete-elsewhere e (q .held)) in
           record { after = A ++ B; holds = T p now _ (A ++ B) G U; from = from-leave A y B }
         where
@@ -95,7 +95,7 @@ module _ (n c x : ℕ) {xs ys : List ℕ} (F : Frame (slotRow n 0) (indexBytes n
       let D = P [] cells e b (S .free) (S .stands) in
       record {
         stores = gone-stores p now q [] cells y (x ∷ S .free) (heldOf cells) S refl D refl away;
-        calendar = still-told (heldOf cells) (H .calendar) (part-kept n F (omega arith)) (stands-inside D) same-registered;
+        calendar = still-told (heldOf cells) (H .calendar) (part-kept n c F (omega arith)) (stands-inside D) same-registered;
       }
     where
       same-registered : (t : ℕ) → registered (heldOf cells) t ≡ registered (q .held) t

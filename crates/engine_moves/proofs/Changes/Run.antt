@@ -63,7 +63,7 @@ module _ (n c x : ℕ) (e : Event) (v after : State) {xs ys zs : List ℕ} (F : 
       times-from (A ++ o ∷ B) (A ++ u ∷ B) (from-swap A x (unrun e) (ran e v) B refl) (subst (Times now) (sym (S .held)) (S .times)) in
       let size : length (A ++ u ∷ B) + length (S .free) ≡ c = rw (length-swap A o u B) (S .places) in
       let G = index-stores (A ++ u ∷ B) (S .free) (mark (e .target) v (q .held)) S F D size held (subst (Times now) held times) (kids S) in
-      let part-is = part-kept n (state-frame (stationRow n (e .target) + 32) after ys) (omega arith) ∙ part-kept n F (omega arith) in
+      let part-is = part-kept n c (state-frame (stationRow n (e .target) + 32) after ys) (omega arith) ∙ part-kept n c F (omega arith) in
       let U =
       untold (mark (e .target) v (q .held)) (H .calendar) part-is (subst (Inside n) held (stands-inside D)) (e .target)
       (mark-elsewhere (e .target) v (q .held)) in
@@ -113,17 +113,20 @@ module _ (n c x : ℕ) (e : Event) (v after : State) (first second : ℕ) (xs : 
       (λ l. Holds p n c now (notedIn n x first second xs) q l → Nodes l (sendsAt n x (notedIn n x first second xs)) (runEvent p v e .sends)
       → Becomes p n c now zs (record { states = update (q .states) (e .target) after; held = mark (e .target) v (q .held) }) l)
       (cell x (unrun e)) cells m (λ A B K w. marked-at n c x e v after F N P T p now q A B K fits room least later w) J
-      (rw (sends-noted n x first second xs (omega (arith, H .stores .long, member-slot (H .stores .stands) (cell x (unrun e)) m)) h k) sends)
+      (rw (sends-noted n x first second xs (omega (arith, H .stores .stands .room, slot)) h k) sends)
     where
       first-stores : Stores p n c now (storeAt 2 (slotRow n (slotOf n x) + 56 + 2 * 0) first xs) q cells
       first-stores = number-stores (H .stores) x 0 first e (omega arith) m
 
-      part-is : part n (notedIn n x first second xs) ≡ part n xs
-      part-is =
-          part-kept n (store-frame 2 (slotRow n (slotOf n x) + 56 + 2 * 1) second (storeAt 2 (slotRow n (slotOf n x) + 56 + 2 * 0) first xs)) (omega arith)
-          ∙ part-kept n (store-frame 2 (slotRow n (slotOf n x) + 56 + 2 * 0) first xs) (omega arith)
+      slot : slotOf n x < c
+      slot = member-slot (H .stores .stands) (cell x (unrun e)) m
 
-      told : Calendared n now (notedIn n x first second xs) (q .held)
+      part-is : part n c (notedIn n x first second xs) ≡ part n c xs
+      part-is =
+          part-kept n c (store-frame 2 (slotRow n (slotOf n x) + 56 + 2 * 1) second (storeAt 2 (slotRow n (slotOf n x) + 56 + 2 * 0) first xs)) (omega (arith, slot))
+          ∙ part-kept n c (store-frame 2 (slotRow n (slotOf n x) + 56 + 2 * 0) first xs) (omega (arith, slot))
+
+      told : Calendared n c now (notedIn n x first second xs) (q .held)
       told = still-told (q .held) (H .calendar) part-is (H .calendar .shows .inside) (λ t. refl)
 
       J : Holds p n c now (notedIn n x first second xs) q cells

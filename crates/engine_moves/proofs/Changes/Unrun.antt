@@ -58,7 +58,7 @@ module _ (n c x : ℕ) (e : Event) (b : State) {xs ys zs : List ℕ} (F : Frame 
       let size : length (A ++ u ∷ B) + length (S .free) ≡ c = rw (length-swap A o u B) (S .places) in
       let G = index-stores (A ++ u ∷ B) (S .free) (unmark e (q .held)) S F D size held (subst (Times now) held times) kids in
       let l : e .target < n = t o (middle-in A o B) in
-      let part-is = part-kept n (state-frame (stationRow n (e .target) + 32) b ys) (omega arith) ∙ part-kept n F (omega arith) in
+      let part-is = part-kept n c (state-frame (stationRow n (e .target) + 32) b ys) (omega arith) ∙ part-kept n c F (omega arith) in
       let U =
       untold (unmark e (q .held)) (H .calendar) part-is (subst (Inside n) held (stands-inside D)) (e .target) (unmark-elsewhere e (q .held)) in
       record {

@@ -1,6 +1,6 @@
 -- What the calls of a change promise, and what `tell` requires.
 use mathlib.Core.Path.{_≡_}
-use mathlib.Core.Logic.{inl}
+use mathlib.Core.Logic.{inr}
 use mathlib.Core.Bool.{Bool, true}
 use mathlib.Core.List.{List}
 use Prim.Native.Nat.{ℕ, _+_, _*_, _≤_, _<_}
@@ -9,24 +9,24 @@ use Rattle.words.specs.Le.{loadAt}
 use Rattle.rings.specs.Table.{Frame}
 use Rattle.engine_rows.specs.Layout.{slotRow}
 use Rattle.engine_index.specs.Layout.{indexBytes}
-use Rattle.engine_events.specs.Represents.{fitsIn}
+use Rattle.engine_events.specs.Represents.{fitsIn, calendarAt, calendarBytes}
 use Rattle.engine_moves.specs.Steps.{Tells}
 use Rattle.engine_events.proofs.Fitting.{fits-true}
 
 -- the calendar is told
 abbrev pub Told : ℕ → ℕ → ℕ → List ℕ → List ℕ → Type 0
-Told n c s xs ys = Frame 64 (32768 + 64 * n) xs ys × Tells n c s xs ys
+Told n c s xs ys = Frame (calendarAt n c) (calendarBytes n) xs ys × Tells n c s xs ys
 
 -- the index is changed
 abbrev pub Indexed : ℕ → ℕ → List ℕ → List ℕ → Type 0
 Indexed n c xs ys = Frame (slotRow n 0) (indexBytes n c) xs ys
 
 -- what `tell` requires
-pub tell-room : (n c s : ℕ) {v : Bool} {l m : ℕ} → v ≡ fitsIn n c l → v ≡ true → s < n → m ≡ l
-    → (n ≤ 256) × (c ≤ 4096) × (s < n) × (32768 + 256 * n + 256 * c ≤ m)
-tell-room n c s {l = l} e t b k = let w = fits-true n c l e t in (w .0, w .1, b, rw k (w .2))
+pub tell-room : (n c s : ℕ) {v : Bool} {l m i : ℕ} → v ≡ fitsIn n c l → v ≡ true → i < c → s < n → m ≡ l
+    → (n ≤ 256) × (1 ≤ c) × (c ≤ 4096) × (s < n) × (32768 + 256 * n + 256 * c ≤ m)
+tell-room n c s {l = l} e t a b k = let w = fits-true n c l e t in (w .0, omega arith, w .1, b, rw k (w .2))
 
 -- the statuses stay where the calendar is told
-pub told-status : (n c : ℕ) {s : ℕ} {ys zs : List ℕ} → Told n c s ys zs → (i : ℕ)
+pub told-status : (n c : ℕ) {s : ℕ} {ys zs : List ℕ} → Told n c s ys zs → (i : ℕ) → i < c
     → loadAt 2 (slotRow n i + 60) zs ≡ loadAt 2 (slotRow n i + 60) ys
-told-status n c T i = T .0 .loads 2 (slotRow n i + 60) (inl (omega arith))
+told-status n c T i l = T .0 .loads 2 (slotRow n i + 60) (inr (omega arith))

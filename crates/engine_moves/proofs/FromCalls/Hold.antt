@@ -24,5 +24,8 @@ module _ (n c : ℕ) (e : Event) where
   pub hold-unfit : (r : ℕ) (xs : List ℕ) {v : Bool} → v ≡ fitsIn n c (length xs) → v ≡ false → AfterHeader xs xs × HoldsEvent n c xs e r xs
   hold-unfit r xs k z = (after-header-same xs, (λ p now q cells H _ _ _ _ _ _. absurd (fits-gone k z (H .stores))))
 
+  pub hold-slotless : (r : ℕ) (xs : List ℕ) → c ≤ 0 → AfterHeader xs xs × HoldsEvent n c xs e r xs
+  hold-slotless r xs l = (after-header-same xs, (λ p now q cells H room _ _ _ _ _. absurd (omega (arith, H .stores .some))))
+
   pub hold-outside : (r : ℕ) (xs : List ℕ) → n ≤ e .target → AfterHeader xs xs × HoldsEvent n c xs e r xs
   hold-outside r xs l = (after-header-same xs, (λ p now q cells H _ _ k _ _ _. absurd (omega arith)))

@@ -37,14 +37,14 @@ module _ (n c x : ℕ) where
       → AfterHeader xs zs × ((runsBelow n zs c ≤ runsBelow n xs c) × DiscardsEvent n c xs x zs)
   discard-made e {i} {xs} {ys} {zs} s q I T = (
     after-header-on (after-header (omega arith) (I .0)) (after-header (omega arith) (T .0)),
-    (runs-most n xs zs (slotOf n x) left c (λ j l d. told-status n c T j ∙ I .1 .1 .0 .statuses j l d), gone),
+    (runs-most n xs zs (slotOf n x) left c (λ j l d. told-status n c T j l ∙ I .1 .1 .0 .statuses j l d), gone),
   )
     where
       zeroed : loadAt 2 (slotRow n (slotOf n x) + 60) ys ≡ 0
       zeroed = I .1 .1 .1 (s .0)
 
       zero-is : loadAt 2 (slotRow n (slotOf n x) + 60) zs ≡ 0
-      zero-is = told-status n c T (slotOf n x) ∙ zeroed
+      zero-is = told-status n c T (slotOf n x) (omega (arith, s .0 .above, s .0 .below)) ∙ zeroed
 
       event-there : e ≡ eventAt (slotRow n (slotOf n x)) xs
       event-there = rw (s .1) at q

@@ -57,15 +57,15 @@ module _ (n c x : ℕ) where
     after-header-on (after-header (omega arith) (I .0)) (after-header-on (after-header (omega arith) set) (after-header (omega arith) (T .0))),
     (
       (λ z. absurd (true≢false z)),
-      ((λ _. runs-less n xs zs (slotOf n x) left c (omega (arith, s .0 .above, s .0 .below)) status-two (λ j h d. status j ∙ I .1 .1 .0 .statuses j h d)), back),
+      ((λ _. runs-less n xs zs (slotOf n x) left c (omega (arith, s .0 .above, s .0 .below)) status-two (λ j h d. status j h ∙ I .1 .1 .0 .statuses j h d)), back),
     ),
   )
     where
       set : Frame (stationRow n (e .target) + 32) 20 ys us
       set = rw ea (state-frame (stationRow n (e .target) + 32) b ys)
 
-      status : (j : ℕ) → loadAt 2 (slotRow n j + 60) zs ≡ loadAt 2 (slotRow n j + 60) ys
-      status j = told-status n c T j ∙ set .loads 2 (slotRow n j + 60) (inl (omega arith))
+      status : (j : ℕ) → j < c → loadAt 2 (slotRow n j + 60) zs ≡ loadAt 2 (slotRow n j + 60) ys
+      status j h = told-status n c T j h ∙ set .loads 2 (slotRow n j + 60) (inl (omega arith))
 
       event-there : e ≡ eventAt (slotRow n (slotOf n x)) xs
       event-there = rw (s .1) at ee
@@ -78,7 +78,7 @@ module _ (n c x : ℕ) where
       unmarked = I .1 .1 .1 at-station (s .0)
 
       one-is : loadAt 2 (slotRow n (slotOf n x) + 60) zs ≡ 1
-      one-is = status (slotOf n x) ∙ unmarked
+      one-is = status (slotOf n x) (omega (arith, s .0 .above, s .0 .below)) ∙ unmarked
 
       left : loadAt 2 (slotRow n (slotOf n x) + 60) zs ≢ 2
       left z = omega (arith, one-is, z)

@@ -1,9 +1,9 @@
 -- The calendar takes the new floor (`raised`); where the code does nothing, the bytes hold no queue of this size (`raises-none`).
 use mathlib.Core.Path.{refl}
 use native.Mathlib.Omega.{arith}
-use Rattle.engine_events.proofs.Fitting.{fits-true}
+use Rattle.engine_events.proofs.Fitting.{fits-true, calendar-room}
 use Rattle.engine_moves.proofs.FloorRaised.{raised, raises-none}
-use Rattle.engine_events.proofs.LeastStation.{nothing-fits, nothing-station}
+use Rattle.engine_events.proofs.LeastStation.{nothing-fits, nothing-slot}
 use borrow.Author.Needs.{needs}
 use Rattle.engine_moves.proofs.raise.Statement.{statement}
 use Rattle.engine_moves.proofs.raise.Tie as tie
@@ -14,19 +14,31 @@ start c = c .before .before .before .before
 
 part-advance-end : tie.Need-part-advance-end
 part-advance-end c =
-    let f = c .before in
-    omega (arith, fits-true (start f .args .n) (start f .args .c) _ (f .before .fits2 .ensures) (f .if1 .taken))
+    let f = c .before .before in
+    let a = start f .args in
+    omega (
+      arith,
+      fits-true (a .n) (a .c) _ (f .before .fits2 .ensures) (f .if1 .taken),
+      calendar-room (a .n) (a .c) (c .before .if2 .taken),
+      c .calendar-start .ensures,
+    )
 
 returns : tie.Need-returns
 returns c =
-    let t = c .before .before .before .before in
-    let f = t .before in
+    let d = c .before .before .before .before in
+    let f = d .before .before in
     let a = start f .args in
-    raised _ _ _ _ _ refl (omega (arith, fits-true (a .n) (a .c) _ (f .before .fits2 .ensures) (f .if1 .taken), t .if2 .taken))
+    raised _ _ _ _ _ (d .calendar-start .ensures) refl
+    (omega (
+      arith,
+      fits-true (a .n) (a .c) _ (f .before .fits2 .ensures) (f .if1 .taken),
+      calendar-room (a .n) (a .c) (d .before .if2 .taken),
+      d .calendar-start .ensures,
+    ))
     (c .before .before .advance .kept .0) (c .before .before .advance .ensures)
 
 returns-2 : tie.Need-returns-2
-returns-2 c = raises-none _ _ _ _ (nothing-station _ _ _ (c .if2 .left))
+returns-2 c = raises-none _ _ _ _ (nothing-slot _ _ _ (c .if2 .left))
 
 returns-3 : tie.Need-returns-3
 returns-3 c = raises-none _ _ _ _ (nothing-fits _ _ _ (c .before .fits2 .ensures) (c .if1 .left))
@@ -36,6 +48,9 @@ raise-spec =
     tie.close
     (tie.spec
     (λ c κs. search needs)
+    (λ c κs. search needs)
+    (λ c. search needs)
+    (λ c. search needs)
     (λ c. search needs)
     (λ c. search needs)
     (λ c. search needs)
