@@ -5,13 +5,30 @@ use Prim.Native.Nat.{ℕ, _+_, _-_, _*_, _≤_, _<_}
 use lib.Dec.{leb}
 use Rattle.engine_rows.specs.Layout.{slotRow}
 
--- the stations' two sentinels each, that of the free ring, and the slots
-abbrev pub nodesOf : ℕ → ℕ → ℕ
-nodesOf n c = 2 * n + 1 + c
+-- ---- nodes: the sentinels, then the slots
 
--- the slot of a node
+-- of a station's ring of unrun events, of its ring of run ones, and of the free ring
+abbrev pub unrunRing : ℕ → ℕ
+unrunRing s = s
+
+abbrev pub runRing : ℕ → ℕ → ℕ
+runRing n s = n + s
+
+abbrev pub freeRing : ℕ → ℕ
+freeRing n = 2 * n
+
+-- the node of a slot, and the slot of a node
+abbrev pub nodeOf : ℕ → ℕ → ℕ
+nodeOf n i = freeRing n + 1 + i
+
 abbrev pub slotOf : ℕ → ℕ → ℕ
-slotOf n x = x - (2 * n + 1)
+slotOf n x = x - (freeRing n + 1)
+
+-- how many there are
+abbrev pub nodesOf : ℕ → ℕ → ℕ
+nodesOf n c = nodeOf n c
+
+-- ---- bytes
 
 -- the links start after the slots, and the log's after those
 abbrev pub linksAt : ℕ → ℕ → ℕ

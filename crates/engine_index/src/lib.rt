@@ -9,10 +9,10 @@
 // Each function takes any bytes and any numbers.
 
 ghost use mathlib.Core.Path.{_≡_};
-ghost use Prim.Native.Nat.{_≤_};
+ghost use Prim.Native.Nat.{_%_, _≤_};
 ghost use lib.ListN.{length};
 ghost use Rattle.rings.specs.Table.{nextOf, prevOf};
-ghost use Rattle.engine_index.specs.Layout.{linksAt, logAt, nodesOf, inRange, slotOf, FindsSlot};
+ghost use Rattle.engine_index.specs.Layout.{linksAt, logAt, runRing, freeRing, nodeOf, nodesOf, inRange, slotOf, FindsSlot};
 
 // ---- shape
 
@@ -45,6 +45,26 @@ pub fn log(n: u16, c: u16) -> u32
     ensures { λ r. ⌜ ((n ≤ 256) → (c ≤ 4096) → r ≡ logAt n c) ⌝ }
 {
     links(n, c) + 4 * nodes(n, c) as u32
+}
+
+// The sentinel of a station's ring of run events, and that of the free ring; as 16 bits hold them.
+pub fn run_ring(n: u16, s: u16) -> u16
+    ensures { λ r. ⌜ r ≡ runRing n s % 65536 ⌝ }
+{
+    ((n as u32 + s as u32) % 65536) as u16
+}
+
+pub fn free_ring(n: u16) -> u16
+    ensures { λ r. ⌜ r ≡ freeRing n % 65536 ⌝ }
+{
+    ((2 * n as u32) % 65536) as u16
+}
+
+// The node of a slot; as 16 bits hold it.
+pub fn node_of(n: u16, i: u16) -> u16
+    ensures { λ r. ⌜ r ≡ nodeOf n i % 65536 ⌝ }
+{
+    ((2 * n as u32 + 1 + i as u32) % 65536) as u16
 }
 
 // The slot of a node; 0 for a sentinel.

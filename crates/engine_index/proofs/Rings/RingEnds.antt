@@ -56,6 +56,11 @@ none-run : (A : List Cell) → NoneRun A → nodesBy hasRun A ≡ []
 none-run [] z = refl
 none-run (y ∷ A) z = rw (z .0) (none-run A (z .1))
 
+pub log-none : {n c : ℕ} {xs : List ℕ} {cells : List Cell} {free : List ℕ} → Stands n c xs cells free → NoneRun cells → nextOf xs (logAt n c) 0 ≡ 0
+log-none {n} {c} {xs} {cells} S z =
+    let R : RingIn xs (logAt n c) (nodesOf n c) 0 [] = rw (none-run cells z) at (S .log .ring 0 one) in
+    first-of R
+
 pub first-logged : {n c : ℕ} {xs : List ℕ} (A B : List Cell) (x : ℕ) (e : Event) (b : State) {free : List ℕ}
     → Stands n c xs (A ++ cell x (ran e b) ∷ B) free → NoneRun A → nextOf xs (logAt n c) 0 ≡ x
 first-logged {n} {c} {xs} A B x e b S z =
