@@ -5,6 +5,7 @@ use mathlib.Core.List.{List}
 use Prim.Native.Nat.{ℕ, zero, suc, _+_, _≤_, _<_}
 use native.Mathlib.Omega.{arith}
 use lib.ListN.{length}
+use Rattle.refusal.specs.Tests.{horizon}
 use Rattle.calendar_buckets.specs.Cells.{halfAt}
 use Rattle.calendar_buckets.specs.Lists.{Live, Lists}
 use Rattle.calendar_buckets.specs.Tree.{Tree}
@@ -36,11 +37,11 @@ module _
     (xs us : List ℕ) (T : Table xs) (s v : ℕ) (size : length us ≡ length xs) (this : dueOf us s ≡ v)
     (dues : (x : ℕ) → x < 256 → (x ≡ s → ⊥) → dueOf us x ≡ dueOf xs x)
     (buckets : (x : ℕ) → x < 256 → (x ≡ s → ⊥) → bucketOf us x ≡ bucketOf xs x)
-    (most : v ≤ 1099511627776)
+    (most : v ≤ suc horizon)
     (right : (v ≡ 0 → ⊥) → (bucketOf us s < 4352) × (4096 ≤ bucketOf us s → bucketOf us s ≡ 4096 + s))
     (L : Lists 4608 (bucketOf us) (dueOf us) (nextOf us) (prevOf us)) (B : Tree 16 17 (headOf us) (nodeOf us) (rootOf us))
   where
-    until : (x : ℕ) → x < 256 → (x ≡ s) ⊎ (x ≡ s → ⊥) → dueOf us x ≤ 1099511627776
+    until : (x : ℕ) → x < 256 → (x ≡ s) ⊎ (x ≡ s → ⊥) → dueOf us x ≤ suc horizon
     until x l (inl e) = rw (e, this) most
     until x l (inr ne) = rw (dues x l ne) (T .until x l)
 

@@ -1,13 +1,14 @@
 -- A table whose cells are 0 has no station.
 use mathlib.Core.Path.{_≡_, refl, sym, ap, ap₂, _∙_}
-use mathlib.Core.Bool.{Bool, true, false, cond}
+use mathlib.Core.Bool.{Bool, true, false, cond, _&&_}
 use mathlib.Core.Logic.{_⊎_, inl, inr}
 use mathlib.Core.List.{List}
 use Prim.Native.Nat.{ℕ, zero, suc, _+_, _*_, _/_, _%_, _≤_, _<_}
 use native.Mathlib.Omega.{arith}
-use lib.Dec.{leb}
+use lib.Dec.{ltb, leb}
 use lib.ListN.{length, getD, set, length-set, List·getD-eq-default}
 use lib.Seq.{getD-set-same, getD-set-other}
+use borrow.Author.Tests.{lt-ltb, le-ltb, le-leb, lt-leb}
 use Rattle.words.specs.Le.{leAt, loadAt}
 use Rattle.calendar_bitmap.specs.Child.{child}
 use Rattle.calendar_bitmap.proofs.ChildLaws.{child-zero}
@@ -21,15 +22,17 @@ pub record Wiped (xs ys : List ℕ) (i : ℕ) : Type 0 where
   pub size : length ys ≡ length xs
   pub zeros : (k : ℕ) → 64 ≤ k → k < i → getD ys k 0 ≡ 0
   pub low : (k : ℕ) → k < 64 → getD ys k 0 ≡ getD xs k 0
+  pub high : (k : ℕ) → i ≤ k → getD ys k 0 ≡ getD xs k 0
 
 pub wipe-start : (xs : List ℕ) → Wiped xs xs 64
-wipe-start xs = record { size = refl; zeros = λ k a b. absurd (omega arith); low = λ k l. refl }
+wipe-start xs = record { size = refl; zeros = λ k a b. absurd (omega arith); low = λ k l. refl; high = λ k l. refl }
 
 pub wipe-on : (xs ys : List ℕ) (i : ℕ) → 64 ≤ i → i < length ys → Wiped xs ys i → Wiped xs (set ys i 0) (i + 1)
 wipe-on xs ys i a l W = record {
   size = length-set {A = ℕ} ys i 0 ∙ W .size;
   zeros = λ k b c. go k b c (eq-or k i);
   low = λ k b. getD-set-other ys i k 0 0 (omega arith) ∙ W .low k b;
+  high = λ k b. getD-set-other ys i k 0 0 (omega arith) ∙ W .high k (omega arith);
 }
   where
     go : (k : ℕ) → 64 ≤ k → k < i + 1 → (k ≡ i) ⊎ (k ≡ i → ⊥) → getD (set ys i 0) k 0 ≡ 0
@@ -62,7 +65,7 @@ load-zero n i xs h = go (leb (i + n) (length xs))
     go true = le-zero n i xs h
     go false = refl
 
-module _ (xs ys : List ℕ) (i e : ℕ) (W : Wiped xs ys i) (past : e ≤ i) (short : e < 12932 → e ≡ length xs) where
+module _ (xs ys : List ℕ) (i e : ℕ) (W : Wiped xs ys i) (most : i ≤ 12932) (past : e ≤ i) (short : e < 12932 → e ≡ length xs) where
   zero-at : (k : ℕ) → 64 ≤ k → k < 12932 → getD ys k 0 ≡ 0
   zero-at k a b = go (lt-or k i)
     where
@@ -98,5 +101,13 @@ module _ (xs ys : List ℕ) (i e : ℕ) (W : Wiped xs ys i) (past : e ≤ i) (sh
     };
   }
 
+  wiped-bytes : (k : ℕ) → getD ys k 0 ≡ cond (leb 64 k && ltb k 12932) 0 (getD xs k 0)
+  wiped-bytes k = go (lt-or k 64) (lt-or k 12932)
+    where
+      go : (k < 64) ⊎ (64 ≤ k) → (k < 12932) ⊎ (12932 ≤ k) → getD ys k 0 ≡ cond (leb 64 k && ltb k 12932) 0 (getD xs k 0)
+      go (inl l) m = rw (lt-leb 64 k l) (W .low k l)
+      go (inr l) (inl m) = rw (le-leb 64 k l, lt-ltb k 12932 m) (zero-at k l m)
+      go (inr l) (inr m) = rw (le-leb 64 k l, le-ltb k 12932 m) (W .high k (omega arith))
+
   pub wiped : Cleared xs ys
-  wiped = record { kept = wiped-kept; table = wiped-table; absent = due-zero }
+  wiped = record { bytes = wiped-bytes; kept = wiped-kept; table = wiped-table; absent = due-zero }

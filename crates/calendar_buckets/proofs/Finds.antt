@@ -3,6 +3,7 @@ use mathlib.Core.Path.{_≡_, sym, ap, _∙_, subst}
 use mathlib.Core.List.{List}
 use Prim.Native.Nat.{ℕ, suc, _+_, _-_, _≤_, _<_}
 use native.Mathlib.Omega.{arith}
+use Rattle.refusal.specs.Tests.{horizon}
 use Rattle.calendar_buckets.specs.Lists.{Live, listOf, rankOf, Front}
 use Rattle.calendar_buckets.specs.Table.{dueOf, bucketOf, nextOf, prevOf}
 use Rattle.calendar_buckets.specs.Steps.{Chained, Place}
@@ -37,7 +38,7 @@ way-out xs list k p last n W lp e z C =
 
 module _
     (xs : List ℕ) (list k p last n kn : ℕ) (W : Way xs list k p last) (lp : p < 4608) (e : n ≡ nextOf xs p) (nz : n ≡ 0 → ⊥)
-    (rank : dueOf xs (n - 1) ≤ 1099511627776 → kn ≡ rankOf (dueOf xs) (n - 1))
+    (rank : dueOf xs (n - 1) ≤ suc horizon → kn ≡ rankOf (dueOf xs) (n - 1))
   where
     pub way-bad : kn ≤ last → Found xs list k p
     way-bad z C =

@@ -5,6 +5,7 @@ use mathlib.Core.List.{List}
 use Prim.Native.Nat.{ℕ, suc, _+_, _-_, _*_, _≤_, _<_}
 use native.Mathlib.Omega.{arith}
 use lib.ListN.{length}
+use Rattle.refusal.specs.Tests.{horizon}
 use Rattle.calendar_buckets.specs.Cells.{wordAt, halfAt, putWord, putHalf}
 use Rattle.calendar_buckets.specs.Table.{dueOf, bucketOf, nextOf, prevOf, headOf, Table, Kept, Gone, Placed}
 use Rattle.calendar_buckets.specs.Steps.{Place, Joined, Raised}
@@ -30,7 +31,7 @@ module _
     put-kept = record { size = in-size; words = λ i l. in-word i (omega arith) (omega arith) }
 
     module _
-        (T : Table xs) (ed : dueOf xs s ≡ 0) (pd : 0 < d) (md : d ≤ 1099511627776) (ll : list < 4352) (lo : 4096 ≤ list → list ≡ 4096 + s)
+        (T : Table xs) (ed : dueOf xs s ≡ 0) (pd : 0 < d) (md : d ≤ suc horizon) (ll : list < 4352) (lo : 4096 ≤ list → list ≡ 4096 + s)
         (lp : p < 4608) (P : Place xs list (d * 256 + s) p) (en : n ≡ nextOf xs p)
       where
         long-y : 12932 ≤ length ys
@@ -164,8 +165,10 @@ put-after G P = record {
   bucket-is = P .bucket-is;
 }
 
--- a station and a due number in range are not out of range
-pub put-nothing : (s d : ℕ) → s < 256 → (d ≡ 0 → ⊥) → d ≤ 1099511627776 → (256 ≤ s) ⊎ ((d ≡ 0) ⊎ (1099511627776 < d)) → ⊥
-put-nothing s d a b c (inl h) = omega arith
-put-nothing s d a b c (inr (inl h)) = b h
-put-nothing s d a b c (inr (inr h)) = omega arith
+-- a station and a due number in range are not out of range, nor is a long buffer short
+pub put-nothing : (s d n : ℕ) → s < 256 → (d ≡ 0 → ⊥) → d ≤ suc horizon → 12932 ≤ n
+    → (256 ≤ s) ⊎ ((d ≡ 0) ⊎ ((suc horizon < d) ⊎ (n < 12932))) → ⊥
+put-nothing s d n a b c e (inl h) = omega arith
+put-nothing s d n a b c e (inr (inl h)) = b h
+put-nothing s d n a b c e (inr (inr (inl h))) = omega arith
+put-nothing s d n a b c e (inr (inr (inr h))) = omega arith

@@ -1,5 +1,6 @@
 -- A registered station is taken out of its bucket: what the stores of `unlink` leave.
 use mathlib.Core.Path.{_≡_, refl, sym, ap, _∙_}
+use mathlib.Core.Logic.{_⊎_, inl, inr}
 use mathlib.Core.List.{List}
 use Prim.Native.Nat.{ℕ, suc, _+_, _-_, _≤_, _<_}
 use native.Mathlib.Omega.{arith}
@@ -105,6 +106,11 @@ module _
           (R .tree long-z ll (headOf xs) filled out-head (tree-same (headOf xs) xs zs bits (T .tree)));
       due-is = out-this;
     }
+
+-- a station in range is not out of range, nor is a long buffer short
+pub take-nothing : (s n : ℕ) → s < 256 → 12932 ≤ n → (256 ≤ s) ⊎ (n < 12932) → ⊥
+take-nothing s n a b (inl h) = omega arith
+take-nothing s n a b (inr h) = omega arith
 
 -- a station that is absent already
 pub gone-already : (s : ℕ) (xs : List ℕ) → Table xs → dueOf xs s ≡ 0 → Gone s xs xs

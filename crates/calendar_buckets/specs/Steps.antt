@@ -3,6 +3,7 @@ use mathlib.Core.Path.{_≡_}
 use mathlib.Core.List.{List}
 use Prim.Native.Nat.{ℕ, suc, _+_, _≤_, _<_}
 use lib.ListN.{length}
+use Rattle.refusal.specs.Tests.{horizon}
 use Rattle.calendar_buckets.specs.Cells.{wordAt, halfAt}
 use Rattle.calendar_buckets.specs.Lists.{Live, Lists, listOf, rankOf}
 use Rattle.calendar_buckets.specs.Tree.{Tree}
@@ -10,7 +11,7 @@ use Rattle.calendar_buckets.specs.Table.{dueOf, bucketOf, nextOf, prevOf
 
 -- the lists are linked, whatever the bits say
 pub record Chained (xs : List ℕ) : Type 0 where
-  pub until : (x : ℕ) → x < 256 → dueOf xs x ≤ 1099511627776
+  pub until : (x : ℕ) → x < 256 → dueOf xs x ≤ suc horizon
   pub lists : Lists 4608 (bucketOf xs) (dueOf xs) (nextOf xs) (prevOf xs)
 
 -- a station of rank k belongs in the list right after p

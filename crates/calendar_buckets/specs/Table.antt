@@ -1,11 +1,12 @@
 -- What the table's bytes stand for: each station's due number and bucket; and what each call leaves.
 use mathlib.Core.Path.{_≡_}
-use mathlib.Core.Bool.{cond}
+use mathlib.Core.Bool.{cond, _&&_}
 use mathlib.Core.Logic.{_⊎_}
 use mathlib.Core.List.{List}
 use Prim.Native.Nat.{ℕ, suc, _+_, _-_, _*_, _%_, _≤_, _<_}
-use lib.Dec.{ltb}
-use lib.ListN.{length}
+use lib.Dec.{ltb, leb}
+use lib.ListN.{length, getD}
+use Rattle.refusal.specs.Tests.{horizon}
 use Rattle.calendar_buckets.specs.Cells.{wordAt, halfAt}
 use Rattle.calendar_buckets.specs.Lists.{Lists, rankOf}
 use Rattle.calendar_buckets.specs.Tree.{Tree}
@@ -43,11 +44,12 @@ headOf xs l = nextOf xs (256 + l)
 -- the bytes are a table
 pub record Table (xs : List ℕ) : Type 0 where
   pub long : 12932 ≤ length xs
-  pub until : (x : ℕ) → x < 256 → dueOf xs x ≤ 1099511627776
+  pub until : (x : ℕ) → x < 256 → dueOf xs x ≤ suc horizon
   pub within : (x : ℕ) → x < 256 → Due xs x → bucketOf xs x < 4352
   -- a bucket of the overflow table is its station's own
   pub own : (x : ℕ) → x < 256 → Due xs x → 4096 ≤ bucketOf xs x → bucketOf xs x ≡ 4096 + x
   pub lists : Lists 4608 (bucketOf xs) (dueOf xs) (nextOf xs) (prevOf xs)
+  -- the 17 groups are the ring's 16 blocks and the overflow table; each stands under the paper's 17 words, 16 nodes and a root
   pub tree : Tree 16 17 (headOf xs) (nodeOf xs) (rootOf xs)
 
 -- ---- what the calls leave
@@ -103,8 +105,9 @@ pub record Later (xs : List ℕ) (from r : ℕ) : Type 0 where
   pub waits : r < 256 → Waits xs r
   pub before : (x : ℕ) → from ≤ x → x < 256 → x < r → Waits xs x → ⊥
 
--- the caller's bytes are kept, and where the buffer is long enough it is a table without stations
+-- the table's bytes are 0 and the others are as they were; where the buffer is long enough it is a table without stations
 pub record Cleared (xs ys : List ℕ) : Type 0 where
+  pub bytes : (k : ℕ) → getD ys k 0 ≡ cond (leb 64 k && ltb k 12932) 0 (getD xs k 0)
   pub kept : Kept xs ys
   pub table : 12932 ≤ length xs → Table ys
   pub absent : (x : ℕ) → x < 256 → dueOf ys x ≡ 0

@@ -10,7 +10,9 @@
 
 ghost use mathlib.Core.Path.{_≡_};
 ghost use mathlib.Core.Logic.{_⊎_};
-ghost use Prim.Native.Nat.{_+_, _*_, _%_, _≤_, _<_};
+ghost use Prim.Native.Nat.{suc, _+_, _*_, _%_, _≤_, _<_};
+ghost use lib.ListN.{length};
+ghost use Rattle.refusal.specs.Tests.{horizon};
 ghost use Rattle.calendar_buckets.specs.Cells.{wordAt, halfAt, putWord, putHalf};
 ghost use Rattle.calendar_buckets.specs.Lists.{rankOf};
 ghost use Rattle.calendar_buckets.specs.Table.{dueOf, Table, bucketFor, Kept, Placed, Gone, First, Later, Cleared};
@@ -20,7 +22,7 @@ use calendar_bitmap::first_from;
 use calendar_bitmap::with_child;
 
 // The largest due number: H + 1.
-const LAST: u64 = 1099511627776;
+const LAST: u64 = refusal::HORIZON + 1;
 
 // The bytes of the table and of those before it. A call on a shorter buffer does nothing; with that known, the compiler leaves out the test of each
 // load and store.
@@ -61,7 +63,7 @@ fn set_half(b: &mut [u8], k: usize, v: u16)
 // The rank of a station in its list, by due and then by number; 0 where the due is out of range.
 fn rank(b: &[u8], s: usize) -> u64
     requires { ⌜ s < 256 ⌝ }
-    ensures { λ r. ⌜ (dueOf (now (b .entry)) s ≤ 1099511627776 → r ≡ rankOf (dueOf (now (b .entry))) s) ⌝ }
+    ensures { λ r. ⌜ (dueOf (now (b .entry)) s ≤ suc horizon → r ≡ rankOf (dueOf (now (b .entry))) s) ⌝ }
 {
     let due = word(b, 8 + s);
     if LAST < due {
@@ -172,7 +174,7 @@ fn unlink(b: &mut [u8], s: usize)
 
 // An absent station is put into a bucket.
 fn insert(b: &mut [u8], s: usize, due: u64, list: usize)
-    requires { ⌜ (s < 256) × (0 < due) × (due ≤ 1099511627776) × (list < 4352) × (4096 ≤ list → list ≡ 4096 + s) ⌝ }
+    requires { ⌜ (s < 256) × (0 < due) × (due ≤ suc horizon) × (list < 4352) × (4096 ≤ list → list ≡ 4096 + s) ⌝ }
     ensures kept { λ _. ⌜ Kept (now (b .entry)) (now (b .exit)) ⌝ }
     ensures placed { λ _. ⌜ (Table (now (b .entry)) → dueOf (now (b .entry)) s ≡ 0 → Placed s due list (now (b .entry)) (now (b .exit))) ⌝ }
 {
@@ -208,10 +210,10 @@ pub fn due(b: &[u8], s: usize) -> u64
     word(b, 8 + s)
 }
 
-// Station s becomes absent.
+// Station s becomes absent. Nothing is done where there is no such station or the buffer is shorter than the table.
 pub fn take(b: &mut [u8], s: usize)
     ensures kept { λ _. ⌜ Kept (now (b .entry)) (now (b .exit)) ⌝ }
-    ensures none { λ _. ⌜ (256 ≤ s → now (b .exit) ≡ now (b .entry)) ⌝ }
+    ensures none { λ _. ⌜ ((256 ≤ s) ⊎ (length (now (b .entry)) < 12932) → now (b .exit) ≡ now (b .entry)) ⌝ }
     ensures gone { λ _. ⌜ (Table (now (b .entry)) → s < 256 → Gone s (now (b .entry)) (now (b .exit))) ⌝ }
 {
     if 256 <= s {
@@ -226,12 +228,12 @@ pub fn take(b: &mut [u8], s: usize)
     unlink(b, s);
 }
 
-// Station s is due then, in that leaf, or in the overflow table where the leaf is 4096 or more. Nothing is done where there is no such station or the
-// due number is 0 or over H + 1.
+// Station s is due then, in that leaf, or in the overflow table where the leaf is 4096 or more. Nothing is done where there is no such station, the due
+// number is 0 or over H + 1, or the buffer is shorter than the table.
 pub fn put(b: &mut [u8], s: usize, due: u64, leaf: usize)
     ensures kept { λ _. ⌜ Kept (now (b .entry)) (now (b .exit)) ⌝ }
-    ensures none { λ _. ⌜ ((256 ≤ s) ⊎ ((due ≡ 0) ⊎ (1099511627776 < due)) → now (b .exit) ≡ now (b .entry)) ⌝ }
-    ensures placed { λ _. ⌜ (Table (now (b .entry)) → s < 256 → 0 < due → due ≤ 1099511627776
+    ensures none { λ _. ⌜ ((256 ≤ s) ⊎ ((due ≡ 0) ⊎ ((suc horizon < due) ⊎ (length (now (b .entry)) < 12932))) → now (b .exit) ≡ now (b .entry)) ⌝ }
+    ensures placed { λ _. ⌜ (Table (now (b .entry)) → s < 256 → 0 < due → due ≤ suc horizon
         → Placed s due (bucketFor leaf s) (now (b .entry)) (now (b .exit))) ⌝ }
 {
     if 256 <= s {
@@ -283,9 +285,11 @@ fn head(b: &[u8], list: usize) -> usize
     h
 }
 
-// The first station of the first leaf in ring order from a slot on, by (due, station), + 1; 0 where all leaves are empty.
+// The first station of the first leaf in ring order from a slot on, by (due, station), + 1; 0 where all leaves are empty or the buffer is shorter
+// than the table.
 pub fn first(b: &[u8], slot: usize) -> usize
     ensures within { λ r. ⌜ r ≤ 256 ⌝ }
+    ensures short { λ r. ⌜ (length (now (b .entry)) < 12932 → r ≡ 0) ⌝ }
     ensures first { λ r. ⌜ (Table (now (b .entry)) → First (now (b .entry)) (slot % 16) r) ⌝ }
 {
     if b.len() < BYTES {
@@ -298,9 +302,10 @@ pub fn first(b: &[u8], slot: usize) -> usize
     head(b, l)
 }
 
-// The first station of the overflow table, from a number on; 256 where none is.
+// The first station of the overflow table, from a number on; 256 where none is or the buffer is shorter than the table.
 pub fn later(b: &[u8], from: usize) -> usize
     ensures within { λ r. ⌜ (r ≤ 256) × (r < 256 → from ≤ r) ⌝ }
+    ensures short { λ r. ⌜ (length (now (b .entry)) < 12932 → r ≡ 256) ⌝ }
     ensures first { λ r. ⌜ (Table (now (b .entry)) → Later (now (b .entry)) from r) ⌝ }
 {
     if b.len() < BYTES {
@@ -328,7 +333,7 @@ fn table_end(len: usize) -> usize
     12932
 }
 
-// All stations become absent, whatever the bytes held.
+// All stations become absent, whatever the bytes held: the table's bytes become 0, as far as the buffer has them.
 pub fn clear(b: &mut [u8])
     ensures { λ _. ⌜ Cleared (now (b .entry)) (now (b .exit)) ⌝ }
 {

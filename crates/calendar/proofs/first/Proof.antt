@@ -10,7 +10,7 @@ returns c =
     let field = c .before .before .field in (
       c .before .first .ensures .0,
       λ S. first-leaves (c .before .before .before .before .args .b .now) S (field .result) (c .before .first .result)
-          (field .ensures) (c .before .first .ensures .1 (S .table)) (c .if1 .taken),
+          (field .ensures) (c .before .first .ensures .1 .1 (S .table)) (c .if1 .taken),
     )
 
 returns-2 : tie.Need-returns-2
@@ -19,7 +19,7 @@ returns-2 c =
     let first = c .before .before .first in (
       c .nearest .ensures .0,
       λ S. first-over (args .b .now) S (c .before .before .before .field .result % 16 % 16) (first .result)
-          (c .nearest .result) (first .ensures .1 (S .table)) (c .before .if1 .left) (c .nearest .ensures .1 S),
+          (c .nearest .result) (first .ensures .1 .1 (S .table)) (c .before .if1 .left) (c .nearest .ensures .1 S),
     )
 
 pub first-spec : {M : Type 1} → statement M

@@ -23,7 +23,7 @@ returns c =
     let loop = c .before .before .before .loop in (
       omega arith,
       λ S. nearest-none (args .b .now) (loop .from) (loop .best) (c .before .later .result) (loop .inv .2 S)
-          (c .before .later .ensures .1 (S .table)) (c .if1 .taken),
+          (c .before .later .ensures .1 .1 (S .table)) (c .if1 .taken),
     )
 
 add-from : tie.Need-add-from Inv-loop μ-loop
@@ -40,7 +40,7 @@ loop-again c =
     let up = later .ensures .0 .1 (c .before .if1 .left) in (
       nearer-within (args .b .now) (loop .from) (loop .best) (later .result) (c .nearer .result) (c .nearer .ensures .1) (loop .inv .0) up,
       omega arith,
-      λ S. nearest-step (args .b .now) (loop .from) (loop .best) (later .result) (loop .inv .2 S) (later .ensures .1 (S .table))
+      λ S. nearest-step (args .b .now) (loop .from) (loop .best) (later .result) (loop .inv .2 S) (later .ensures .1 .1 (S .table))
           (c .before .if1 .left) up (loop .inv .0) (c .nearer .result) (c .nearer .ensures .1),
     )
 

@@ -21,7 +21,7 @@ returns : tie.Need-returns Inv-loop μ-loop
 returns c =
     let args = c .before .before .before .before .before .before .args in
     let loop = c .before .before .before .before .loop in
-    settle-none (args .b .now) (loop .b) (loop .from) (c .before .later .result) (loop .inv .2) (c .before .later .ensures .1) (c .if1 .taken)
+    settle-none (args .b .now) (loop .b) (loop .from) (c .before .later .result) (loop .inv .2) (c .before .later .ensures .1 .1) (c .if1 .taken)
 
 loop-less : tie.Need-loop-less Inv-loop μ-loop
 loop-less c =
@@ -37,7 +37,7 @@ loop-again c =
       omega arith,
       search needs,
       settle-step (args .b .now) (loop .b) (fetch .last .0) (loop .from) (later .result) (loop .inv .2)
-          (later .ensures .1) (c .before .before .before .before .if1 .left) (fetch .ensures),
+          (later .ensures .1 .1) (c .before .before .before .before .if1 .left) (fetch .ensures),
     )
 
 returns-2 : tie.Need-returns-2 Inv-loop μ-loop

@@ -1,4 +1,5 @@
 -- Each node without a bit from s on passes its stations by.
+use mathlib.Core.Path.{refl}
 use Prim.Native.Nat.{_-_, _≤_}
 use native.Mathlib.Omega.{arith}
 use borrow.Author.Needs.{needs}
@@ -14,7 +15,7 @@ abbrev μ-loop : tie.MeasureT-loop
 μ-loop b from s₀ s = 256 - s
 
 returns : tie.Need-returns Inv-loop μ-loop
-returns c = ((omega arith, λ l. absurd (omega arith)), λ T. absurd (omega (arith, T .long)))
+returns c = ((omega arith, λ l. absurd (omega arith)), (λ h. refl, λ T. absurd (omega (arith, T .long))))
 
 loop-holds : tie.Need-loop-holds Inv-loop μ-loop
 loop-holds c = (omega arith, λ T. none-start _ _)
@@ -41,7 +42,10 @@ returns-2 c =
     let half = c .before .before .half in
     let first-from = c .before .first-from in (
       (omega arith, λ l. omega (arith, first-from .ensures .from (c .if2 .taken))),
-      λ T. found _ T _ _ _ _ (loop-test .taken) (loop .inv .1 T) (half .ensures) (first-from .ensures) (c .if2 .taken),
+      (
+        λ h. absurd (omega arith),
+        λ T. found _ T _ _ _ _ (loop-test .taken) (loop .inv .1 T) (half .ensures) (first-from .ensures) (c .if2 .taken),
+      ),
     )
 
 mul-s : tie.Need-mul-s Inv-loop μ-loop
@@ -62,7 +66,7 @@ loop-again c =
     (omega arith, λ T. none-on _ T _ _ _ _ (loop-test .taken) (loop .inv .1 T) (half .ensures) (first-from .ensures) (c .if2 .left))
 
 returns-3 : tie.Need-returns-3 Inv-loop μ-loop
-returns-3 c = ((omega arith, λ l. absurd (omega arith)), λ T. none-end _ _ _ (c .loop-test .left) (c .before .loop .inv .1 T))
+returns-3 c = ((omega arith, λ l. absurd (omega arith)), (λ h. refl, λ T. none-end _ _ _ (c .loop-test .left) (c .before .loop .inv .1 T)))
 
 pub later-spec : {M : Type 1} → statement M
 later-spec =

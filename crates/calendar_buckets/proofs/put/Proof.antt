@@ -28,12 +28,13 @@ returns-5 c =
     let if1 = back10 .before .before .if1 in
     let if2 = back10 .before .if2 in
     let if3 = back10 .if3 in
+    let if4 = c .before .before .before .before .before .before .before .before .before .if4 in
     let take = c .before .before .before .before .before .before .before .take in
     let bucket = c .before .before .before .bucket in
     let insert = c .before .before .insert in (
       kept-on (take .ensures .0) (insert .ensures .0),
       (
-        λ h. absurd (put-nothing _ _ (if1 .left) (if2 .left) (if3 .left) h),
+        λ h. absurd (put-nothing _ _ _ (if1 .left) (if2 .left) (if3 .left) (if4 .left) h),
         λ T l d m.
             let G = take .ensures .1 .1 T l in
             put-after G
