@@ -1,10 +1,13 @@
 -- The command lines, and the lines of the answers (document 01, "Bench program").
 use mathlib.Core.List.{List, [], _∷_, _++_}
 use Prim.Native.Nat.{ℕ}
+use Rattle.refusal.specs.Numbers.{numberOf}
 use Rattle.line.specs.declared.Event.{Event}
 use Rattle.line.specs.Matter.{kindOf, valueOf}
 use Rattle.bench_command.specs.declared.Command.{Command}
 use Rattle.bench_command.specs.declared.Command.the-variants.{Post, Retract, Run, RunStation, Commit}
+use Rattle.bench_command.specs.declared.Parsed.{Parsed}
+use Rattle.bench_command.specs.declared.Parsed.the-variants.{Is, Refused}
 use Rattle.bench_command.specs.declared.Output.{Output}
 use Rattle.bench_command.specs.declared.Output.the-variants as Out
 use Rattle.bench_command.specs.Decimal.{decimal, Fits}
@@ -45,6 +48,15 @@ FitsAll (Retract number) = Fits number
 FitsAll Run = Unit
 FitsAll (RunStation station) = Fits station
 FitsAll (Commit time) = Fits time
+
+-- what a line says: a command with its numbers, or a refusal's number
+pub data LineSaid : Type 0 where
+  Asks : Command → LineSaid
+  Refuses : ℕ → LineSaid
+
+abbrev pub parsedSaid : Parsed → LineSaid
+parsedSaid (Is c) = Asks c
+parsedSaid (Refused e) = Refuses (numberOf e)
 
 -- "post: number, undone; run: station, undone; retract: undone; commit: .. its count"; "A refusal prints "no NUMBER""; each a line
 unfoldable pub outputOf : Output → List ℕ

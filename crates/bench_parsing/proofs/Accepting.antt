@@ -10,7 +10,7 @@ use Rattle.bench_command.specs.declared.Command.{Command}
 use Rattle.bench_command.specs.declared.Command.the-variants.{Post, Retract, Run, RunStation, Commit}
 use Rattle.bench_command.specs.declared.Parsed.the-variants.{Is, Refused}
 use Rattle.bench_command.specs.Decimal.{decimal, Fits}
-use Rattle.bench_command.specs.Lines.{post, retract, run, commit, spaced, commandLine, FitsAll}
+use Rattle.bench_command.specs.Lines.{post, retract, run, commit, spaced, commandLine, FitsAll, Asks}
 use Rattle.bench_parsing.specs.Parsing.{Parses}
 use Rattle.bench_parsing.proofs.Forms.{post-line, secondOf, fourthOf, second, fourth}
 use Rattle.bench_parsing.proofs.Inverse.{one-line}
@@ -18,9 +18,9 @@ use Rattle.bench_parsing.proofs.Inverse.{one-line}
 pub takes : (xs : List ℕ) (c : Command) → FitsAll c → xs ≡ commandLine c → Parses xs (Is c)
 takes xs c f e =
     record {
-      accepts = λ d g q. ap Is (one-line c d f g (sym e ∙ q));
+      accepts = λ d g q. ap Asks (one-line c d f g (sym e ∙ q));
       accepted = λ d q. let h : c ≡ d = cc in rw (← h) ((e, f));
-      refused = λ r q. let h : _≡_ {A = ℕ} 0 1 = cc in absurd (omega arith);
+      refused = λ n q. let h : _≡_ {A = ℕ} 0 1 = cc in absurd (omega arith);
     }
 
 pub refuses : (xs : List ℕ) → ((c : Command) → FitsAll c → xs ≡ commandLine c → ⊥) → Parses xs (Refused R.Command)
@@ -28,7 +28,7 @@ refuses xs h =
     record {
       accepts = λ c f e. absurd (h c f e);
       accepted = λ c q. let z : _≡_ {A = ℕ} 0 1 = cc in absurd (omega arith);
-      refused = λ r q. let z : R.Command ≡ r = cc in sym z;
+      refused = λ n q. let z : 8 ≡ n = cc in sym z;
     }
 
 -- ---- by the word

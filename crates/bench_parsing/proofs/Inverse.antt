@@ -7,12 +7,12 @@ use Rattle.bench_command.specs.declared.Command.{Command}
 use Rattle.bench_command.specs.declared.Parsed.{Parsed}
 use Rattle.bench_command.specs.declared.Parsed.the-variants.{Is}
 use Rattle.bench_command.specs.Decimal.{decimal, Fits}
-use Rattle.bench_command.specs.Lines.{commandLine, FitsAll}
+use Rattle.bench_command.specs.Lines.{commandLine, FitsAll, Asks, parsedSaid}
 use Rattle.bench_parsing.specs.Parsing.{Parses}
 use Rattle.bench_parsing.proofs.Forms.{decimal-injective, fourth, same}
 
 -- a command's line is read as that command
-pub reads-back : (c : Command) (r : Parsed) → FitsAll c → Parses (commandLine c) r → r ≡ Is c
+pub reads-back : (c : Command) (r : Parsed) → FitsAll c → Parses (commandLine c) r → parsedSaid r ≡ Asks c
 reads-back c r f p = p .accepts c f refl
 
 -- a line that is read as a command is that command's line

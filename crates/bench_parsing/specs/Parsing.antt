@@ -3,21 +3,18 @@ use mathlib.Core.Path.{_≡_}
 use mathlib.Core.List.{List, _++_}
 use Prim.Native.Nat.{ℕ, _+_, _≤_}
 use lib.ListN.{length, drop}
-use Rattle.refusal.specs.declared.Refusal.{Refusal}
-use Rattle.refusal.specs.declared.Refusal.the-variants as R
 use Rattle.bench_command.specs.declared.Command.{Command}
 use Rattle.bench_command.specs.declared.Parsed.{Parsed}
-use Rattle.bench_command.specs.declared.Parsed.the-variants.{Is, Refused}
 use Rattle.bench_parsing.specs.declared.Number.{Number}
 use Rattle.bench_parsing.specs.declared.Number.the-variants.{Value}
 use Rattle.bench_command.specs.Decimal.{decimal, Fits, Stops}
-use Rattle.bench_command.specs.Lines.{commandLine, FitsAll}
+use Rattle.bench_command.specs.Lines.{commandLine, FitsAll, LineSaid, Asks, Refuses, parsedSaid}
 
--- every line of a form is accepted with its numbers, and every other is refused with 8
+-- every line of a form is accepted with its numbers, and every other is refused: "8. A command line has none of the forms below."
 pub record Parses (xs : List ℕ) (r : Parsed) : Type 0 where
-  pub accepts : (c : Command) → FitsAll c → xs ≡ commandLine c → r ≡ Is c
-  pub accepted : (c : Command) → r ≡ Is c → (xs ≡ commandLine c) × FitsAll c
-  pub refused : (e : Refusal) → r ≡ Refused e → e ≡ R.Command
+  pub accepts : (c : Command) → FitsAll c → xs ≡ commandLine c → parsedSaid r ≡ Asks c
+  pub accepted : (c : Command) → parsedSaid r ≡ Asks c → (xs ≡ commandLine c) × FitsAll c
+  pub refused : (n : ℕ) → parsedSaid r ≡ Refuses n → n ≡ 8
 
 -- ---- steps
 
