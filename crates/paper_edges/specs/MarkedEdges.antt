@@ -3,15 +3,15 @@ use mathlib.Core.Path.{_≡_}
 use mathlib.Core.List.{List, []}
 use Prim.Native.Nat.{ℕ, suc, _≤_}
 use lib.ListN.{length}
-use Rattle.refusal.specs.declared.Refusal.the-variants.{Shape}
-use Rattle.refusal.specs.Tests.{horizon}
+use Rattle.refusal.specs.Tests.{horizon, refused}
 use Rattle.generator.specs.Draw.{nextDraw}
 use Rattle.line.specs.declared.Config.{Config}
 use Rattle.line.specs.declared.State.{State}
 use Rattle.line.specs.Station.{period, runRead, runFrame}
 use Rattle.calendar.specs.Ring.{leafAt, ringEnd, leafFor}
-use Rattle.plan_format.specs.declared.ReadAnswer.the-variants.{Stations, Refused}
+use Rattle.plan_format.specs.declared.ReadAnswer.the-variants.{Stations}
 use Rattle.plan_format.specs.Plan.{offsetOf}
+use Rattle.plan_format.specs.Numbers.{readSays}
 use Rattle.plan_format.specs.Reading.{judging}
 
 -- the leaf of a time, at a floor: 4096 is the overflow table
@@ -38,5 +38,5 @@ pub record Marked : Type 0 where
   pub ring-16383 : (leafSeen 16383 262143 ≡ leafAt 16 15 255) × (leafSeen 16383 262144 ≡ 4096)
   pub ring-16384 : leafSeen 16384 262144 ≡ leafAt 16 0 0
   -- "No bytes: 1. One station: offset 10, 36 bytes at least."
-  pub no-bytes : judging [] ≡ Refused Shape
+  pub no-bytes : readSays (judging []) ≡ refused 1
   pub one-station : (p : List ℕ) → judging p ≡ Stations 1 → (offsetOf p 0 ≡ 10) × (36 ≤ length p)

@@ -1,4 +1,3 @@
 pub mod ReadWritten
 pub mod WrittenRead
 pub mod WriteRead
-pub mod Checked

@@ -49,7 +49,7 @@ module _ (s : Station) (z : Sized s) (short : s .len ≤ 16) where
   -- the bytes after the name are no part of it
   name-cleared : nameOut (cleared s) ≡ nameOut s
   unfolding nameOut cleared
-  name-cleared = rw (take-at (take (s .len) (s .name)) (replicate (16 - s .len) 0) (s .len) name-length)
+  name-cleared = rw (take-at (take (s .len) (s .name)) (replicate (16 - length (take (s .len) (s .name))) 0) (s .len) name-length)
 
   record-length : length (recordBytes s) ≡ sizeOf s
   unfolding recordBytes
@@ -75,7 +75,7 @@ module _ (s : Station) (z : Sized s) (short : s .len ≤ 16) where
     unfolding stationAt cleared
     station-read k o l =
         let n : sizeOf s - 26 ≡ s .len = omega arith in
-        rw (o, l, n, numbers-read .0, numbers-read .1, take-at (take (s .len) (s .name)) rest (s .len) name-length, name-length)
+        rw (o, l, n, numbers-read .0, numbers-read .1, take-at (take (s .len) (s .name)) rest (s .len) name-length)
 
     -- it ends in the plan, and the rest stands after it
     beyond : (drop (at + sizeOf s) p ≡ rest) × (at + sizeOf s ≤ length p)
@@ -86,14 +86,14 @@ module _ (s : Station) (z : Sized s) (short : s .len ≤ 16) where
 -- ---- the stations, one by one
 
 -- the pair of station k is right, and the station is s
-record Reads (p : List ℕ) (k : ℕ) (s : Station) : Type 0 where
+record ReadAt (p : List ℕ) (k : ℕ) (s : Station) : Type 0 where
   right : PairRight p k
   station : stationAt p k ≡ cleared s
 
 -- the stations from k to the end of the plan are ss
 abbrev AllRead : List ℕ → ℕ → List Station → Type 0
 AllRead p k [] = begins p k ≡ length p
-AllRead p k (s ∷ ss) = Reads p k s × AllRead p (suc k) ss
+AllRead p k (s ∷ ss) = ReadAt p k s × AllRead p (suc k) ss
 
 -- each of ss can be written
 abbrev Each : List Station → Type 0
@@ -122,7 +122,7 @@ unfolding stationsFrom
 stations-read p k [] a = refl
 stations-read p k (s ∷ ss) a = λ i. a .0 .station i ∷ stations-read p (suc k) ss (a .1) i
 
-read-at : (p : List ℕ) (k : ℕ) (ss : List Station) → AllRead p k ss → (j : ℕ) → j < length ss → Reads p (k + j) (getD ss j noStation)
+read-at : (p : List ℕ) (k : ℕ) (ss : List Station) → AllRead p k ss → (j : ℕ) → j < length ss → ReadAt p (k + j) (getD ss j noStation)
 read-at p k [] a j h = absurd (not-suc-le-zero h)
 read-at p k (s ∷ ss) a zero h = rw add-zero (a .0)
 read-at p k (s ∷ ss) a (suc j) h = rw (add-suc, ← suc-add) (read-at p (suc k) ss (a .1) j (omega arith))
@@ -161,7 +161,7 @@ module _ (ss : List Station) (w : Writable ss) where
       all-read (planOf ss) 0 (2 + 8 * length ss) ss (recordsOf ss) each-fits (rw (count-read .0)) plan-length (omega arith)
       (count-read .1) records-placed
 
-  at-station : (k : ℕ) → k < length ss → Reads (planOf ss) k (getD ss k noStation)
+  at-station : (k : ℕ) → k < length ss → ReadAt (planOf ss) k (getD ss k noStation)
   at-station k h = rw zero-add at (read-at (planOf ss) 0 ss plan-read k h)
 
   -- the plan is accepted

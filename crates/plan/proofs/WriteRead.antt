@@ -12,14 +12,9 @@ use Rattle.plan_format.specs.declared.ReadAnswer.the-variants.{Stations}
 use Rattle.plan_format.specs.Plan.{offsetOf, lengthOf, begins, configAt, padded, stationAt, stationsFrom}
 use Rattle.plan_format.specs.Reading.{judging}
 use Rattle.plan_format.specs.Writing.{recordBytes, pairsOf, recordsOf, planOf}
+use Rattle.plan_format.proofs.Stations.{length-from}
 use Rattle.plan_format.proofs.Accepted.{Accepted, accepted, begins-first, pairs-within}
 use Rattle.plan_format.proofs.Pairs.{PairRight}
-
--- so many stations are read as were asked for
-pub length-from : (p : List ℕ) (k n : ℕ) → length (stationsFrom p k n) ≡ n
-unfolding stationsFrom
-length-from p k zero = refl
-length-from p k (suc n) = ap suc (length-from p (suc k) n)
 
 module _ (p : List ℕ) (bytes : (i : ℕ) → getD p i 0 < 256) where
   -- ---- a record

@@ -17,7 +17,7 @@ use Rattle.plan_format.specs.declared.WriteAnswer.{WriteAnswer}
 use Rattle.plan_format.specs.declared.WriteAnswer.the-variants.{Length, Refused}
 use Rattle.plan_format.specs.Plan.{stationsFrom, nameOut}
 use Rattle.plan_format.specs.Reading.{any, judging}
-use Rattle.plan_format.specs.Writing.{planOf, noStation, chosen, fieldOut, wordOut, writing, cleared}
+use Rattle.plan_format.specs.Writing.{planOf, noStation, fieldOut, wordOut, writing, cleared}
 use Rattle.plan_format.proofs.Lows.{any-none}
 use Rattle.plan.proofs.ReadWritten.{Sized, Writable, written-accepted, written-read}
 
@@ -27,7 +27,7 @@ passed true r rest e = let z : _≡_ {A = ℕ} 0 1 = cc in absurd (omega arith)
 passed false r rest e = (refl, e)
 
 module _ (n : ℕ) (ss : List Station) (room m : ℕ) (e : writing n ss room ≡ Length m) (sized : (k : ℕ) → k < n → Sized (getD ss k noStation)) where
-  writable : Writable (chosen n ss)
+  writable : Writable (take n ss)
   unfolding writing
   writable =
       let a = passed (ltb n 1 || (ltb 256 n || ltb (length ss) n)) _ _ e in
@@ -45,9 +45,9 @@ module _ (n : ℕ) (ss : List Station) (room m : ℕ) (e : writing n ss room ≡
       }
 
   -- the plan that was written is accepted
-  pub write-accepted : judging (planOf (chosen n ss)) ≡ Stations (length (chosen n ss))
-  write-accepted = written-accepted (chosen n ss) writable
+  pub write-accepted : judging (planOf (take n ss)) ≡ Stations (length (take n ss))
+  write-accepted = written-accepted (take n ss) writable
 
   -- and its stations are those that were written, with zeros after their names
-  pub write-then-read : stationsFrom (planOf (chosen n ss)) 0 (length (chosen n ss)) ≡ map cleared (chosen n ss)
-  write-then-read = written-read (chosen n ss) writable
+  pub write-then-read : stationsFrom (planOf (take n ss)) 0 (length (take n ss)) ≡ map cleared (take n ss)
+  write-then-read = written-read (take n ss) writable

@@ -15,9 +15,10 @@ use Rattle.plan_format.specs.declared.ReadAnswer.{ReadAnswer}
 use Rattle.plan_format.specs.declared.ReadAnswer.the-variants.{Stations, Refused}
 use Rattle.plan_format.specs.Plan.{count, begins, stationAt, shapeWrong, pairWrong, trails, fieldWrong, nameOut, nameWrong}
 use Rattle.plan_format.specs.Lowest.{lowest}
-use Rattle.plan_format.specs.Reading.{any, judging, reading, inRoom, readOf}
+use Rattle.plan_format.specs.Reading.{any, judging, reading, readOf}
 use Rattle.plan_format.proofs.Lows.{lowest-zero, lowest-all, any-none, any-all}
 use Rattle.plan_format.proofs.Pairs.{PairRight, pair-right, pair-passes}
+use Rattle.plan_format.proofs.Answers.{inRoom, reading-in}
 
 -- a plan of n stations that is accepted. `whole`: the last record ends the file
 pub record Accepted (p : List ℕ) (n : ℕ) : Type 0 where
@@ -132,5 +133,4 @@ room-readable p room (Stations n) e = by-test (ltb room n) refl
     by-test false h = let a = accepted p n e in record { held = ltb-false room n h; few = a .most; right = lowest-all (pairWrong p) n (λ k l. pair-passes p k (a .right k l)) }
 
 pub reading-readable : (p : List ℕ) (room : ℕ) → Readable p room (readOf (reading p room))
-unfolding reading
-reading-readable p room = room-readable p room (judging p) refl
+reading-readable p room = rw reading-in (room-readable p room (judging p) refl)

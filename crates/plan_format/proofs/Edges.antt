@@ -5,16 +5,18 @@ use mathlib.Core.Path.{_≡_, refl, _∙_}
 use mathlib.Core.List.{List, [], _∷_}
 use lib.ListN.{length, replicate}
 use Rattle.words.specs.Le.{leAt, loadAt}
-use Rattle.refusal.specs.declared.Refusal.the-variants.{Shape, Output}
+use Rattle.refusal.specs.declared.Refusal.the-variants.{Output}
+use Rattle.refusal.specs.Tests.{refused}
 use Rattle.line.specs.Station.{parentOut, numberOut}
 use Rattle.plan_format.specs.declared.ReadAnswer.the-variants.{Stations, Refused}
 use Rattle.plan_format.specs.Lowest.{lowest}
 use Rattle.plan_format.specs.Plan.{offsetOf, begins, configAt, stationAt, stationsFrom, pairWrong, fieldWrong, anyOut, nameOut, nameWrong}
+use Rattle.plan_format.specs.Numbers.{readSays}
 use Rattle.plan_format.specs.Reading.{judging, reading}
 use Rattle.plan_format.proofs.Accepted.{accepted, begins-first}
 
 -- "No bytes: 1"
-pub no-bytes : judging [] ≡ Refused Shape
+pub no-bytes : readSays (judging []) ≡ refused 1
 unfolding judging
 no-bytes = refl
 

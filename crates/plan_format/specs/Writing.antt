@@ -1,18 +1,18 @@
 -- The plan that a list of stations is written as, and what writing it answers (document 01, "Plan of a line"; the writer's numbers 1, 4, 5, 18).
-use Prim.Native.Nat.{ℕ, _+_, _-_, _*_}
-use mathlib.Core.Bool.{Bool, cond, _||_}
+use Prim.Native.Nat.{ℕ, _+_, _*_}
+use mathlib.Core.Bool.{Bool, _||_}
 use mathlib.Core.List.{List, [], _∷_, _++_}
 use lib.Dec.{ltb}
 use lib.ListN.{length, take, drop, getD, replicate}
 use Rattle.words.specs.Le.{bytesOf}
 use Rattle.refusal.specs.declared.Refusal.the-variants.{Shape, Field, Name, Output}
+use Rattle.refusal.specs.Cases.{Case, gives, firstOf}
 use Rattle.line.specs.Station.{numberOut}
 use Rattle.plan_format.specs.declared.Station.{Station}
 use Rattle.plan_format.specs.declared.WriteAnswer.{WriteAnswer}
 use Rattle.plan_format.specs.declared.WriteAnswer.the-variants.{Length, Refused}
-use Rattle.plan_format.specs.Lowest.{lowest}
-use Rattle.plan_format.specs.Plan.{nameOut}
-use Rattle.plan_format.specs.Reading.{any}
+use Rattle.plan_format.specs.Plan.{padded, nameOut}
+use Rattle.plan_format.specs.Reading.{givesLowest}
 
 -- ---- the bytes
 
@@ -43,10 +43,6 @@ planOf ss = bytesOf 2 (length ss) ++ (pairsOf (2 + 8 * length ss) ss ++ recordsO
 abbrev pub noStation : Station
 noStation = record { config = record { parent = 0; calm = 0; spring = 0; threshold = 0; hop = 0; noise = 0; seed = 0 }; name = replicate 16 0; len = 0 }
 
--- the first n stations of a list
-abbrev pub chosen : ℕ → List Station → List Station
-chosen n ss = take n ss
-
 -- 4 and 5 of the station at k
 abbrev pub fieldOut : List Station → ℕ → Bool
 fieldOut ss k = numberOut k (getD ss k noStation .config)
@@ -58,14 +54,18 @@ wordOut ss k = nameOut (getD ss k noStation)
 abbrev pub countOut : ℕ → ℕ → Bool
 countOut n len = ltb n 1 || (ltb 256 n || ltb len n)
 
+-- ".. the writer 1, 4, 5, 18": ".. the plan writer's output is shorter than the plan"
+abbrev pub writeCases : ℕ → List Station → ℕ → List Case
+writeCases n ss room =
+    gives Shape (countOut n (length ss))
+    ∷ givesLowest Field (fieldOut ss) n
+    ∷ givesLowest Name (wordOut ss) n
+    ∷ gives Output (ltb room (length (planOf (take n ss))))
+    ∷ []
+
 -- writing the first n stations of the list into so many bytes
 unfoldable pub writing : ℕ → List Station → ℕ → WriteAnswer
-writing n ss room =
-    cond (countOut n (length ss)) (Refused Shape)
-    (cond (any (fieldOut ss) n) (Refused (Field (lowest (fieldOut ss) n)))
-    (cond (any (wordOut ss) n) (Refused (Name (lowest (wordOut ss) n)))
-    (cond (ltb room (length (planOf (chosen n ss)))) (Refused Output)
-    (Length (length (planOf (chosen n ss)))))))
+writing n ss room = firstOf Refused (writeCases n ss room) (Length (length (planOf (take n ss))))
 
 -- the output as the call leaves it, "what stands after" the plan unchanged
 abbrev pub left : WriteAnswer → List ℕ → List ℕ → List ℕ
@@ -76,4 +76,4 @@ left (Refused r) plan out = out
 
 -- "two records are equal when their numbers and names are": the record with zeros after its name
 unfoldable pub cleared : Station → Station
-cleared s = record { config = s .config; name = take (s .len) (s .name) ++ replicate (16 - s .len) 0; len = s .len }
+cleared s = record { config = s .config; name = padded (take (s .len) (s .name)); len = s .len }

@@ -4,6 +4,7 @@ ghost use mathlib.Core.Path.{_≡_};
 ghost use Prim.Native.Nat.{ℕ, _+_, _≤_};
 ghost use lib.ListN.{length};
 ghost use Rattle.plan_naming.specs.Naming.{naming, IsPart};
+ghost use Rattle.plan_naming.specs.Promises.{ShowsName};
 use plan_format::NameAnswer;
 use plan_format::ReadAnswer;
 use plan_format::Station;
@@ -48,7 +49,7 @@ fn part_of(plan: &[u8], place: NameAnswer) -> &[u8]
 
 // The name of a station, in the caller's bytes.
 pub fn name<'a>(plan: &'a [u8], station: u64) -> Named<'a>
-    ensures { λ r. ⌜ (r .answer ≡ naming (now (plan .entry)) station) × IsPart (plan .entry) (r .part) (naming (now (plan .entry)) station) ⌝ }
+    ensures { λ r. ⌜ ShowsName (plan .entry) station r ⌝ }
 {
     let answer = place_of(plan, station);
     let part = part_of(plan, answer);

@@ -1,5 +1,5 @@
 -- A list whose first records are set one after the other.
-use Prim.Native.Nat.{ℕ, zero, suc, _+_, _≤_, _<_}
+use Prim.Native.Nat.{ℕ, suc, _+_, _≤_, _<_}
 use native.Mathlib.Numerals.{add-one}
 use native.Mathlib.Omega.{arith}
 use mathlib.Core.Path.{_≡_, refl, sym, ap, _∙_}
@@ -9,6 +9,7 @@ use lib.Seq.{drop-cons, set-at}
 use Rattle.plan_format.specs.declared.Station.{Station}
 use Rattle.plan_format.specs.Plan.{stationAt, stationsFrom}
 use Rattle.plan_format.specs.Writing.{noStation}
+use Rattle.plan_format.proofs.Stations.{length-from, from-last}
 
 -- the plan's first n stations, and what stood after them
 unfoldable pub filled : List ℕ → ℕ → List Station → List Station
@@ -22,21 +23,9 @@ pub filled-zero : (p : List ℕ) (ys : List Station) → filled p 0 ys ≡ ys
 unfolding filled stationsFrom
 filled-zero p ys = refl
 
-pub length-from : (p : List ℕ) (k j : ℕ) → length (stationsFrom p k j) ≡ j
-unfolding stationsFrom
-length-from p k zero = refl
-length-from p k (suc j) = ap suc (length-from p (suc k) j)
-
 pub length-filled : (p : List ℕ) (n : ℕ) (ys : List Station) → n ≤ length ys → length (filled p n ys) ≡ length ys
 unfolding filled
 length-filled p n ys h = simp (length-append, length-from, length-drop) (omega arith)
-
-from-last : (p : List ℕ) (k j : ℕ) → stationsFrom p k (suc j) ≡ stationsFrom p k j ++ (stationAt p (k + j) ∷ [])
-unfolding stationsFrom
-from-last p k zero = let e : k ≡ k + 0 = omega arith in ap (λ (m : ℕ). stationAt p m ∷ []) e
-from-last p k (suc j) =
-    let e : suc k + j ≡ k + suc j = omega arith in
-    ap (λ (l : List Station). stationAt p k ∷ l) (from-last p (suc k) j ∙ ap (λ (m : ℕ). stationsFrom p (suc k) j ++ (stationAt p m ∷ [])) e)
 
 pub filled-next : (p : List ℕ) (n : ℕ) (ys : List Station) → n < length ys → filled p (n + 1) ys ≡ set (filled p n ys) n (stationAt p n)
 unfolding filled

@@ -7,7 +7,8 @@ ghost use Prim.Native.Nat.{_+_, _<_, _≤_};
 ghost use lib.ListN.{length, take, drop};
 ghost use Rattle.plan_format.specs.Lowest.{lowest};
 ghost use Rattle.plan_format.specs.Plan.{padded, stationAt, stationsFrom, pairWrong, fieldWrong, nameWrong};
-ghost use Rattle.plan_format.specs.Reading.{judging, reading, readOf};
+ghost use Rattle.plan_format.specs.Reading.{readOf};
+ghost use Rattle.plan_reading.specs.Promises.{Judges, JudgesIn, ReadsPlan};
 use plan_format::ReadAnswer;
 use plan_format::Station;
 use refusal::Refusal;
@@ -83,7 +84,7 @@ fn lowest_name(plan: &[u8], n: u16) -> u16
 
 // What is wrong with a plan, in checking order; or its number of stations.
 pub fn judge(plan: &[u8]) -> ReadAnswer
-    ensures { λ r. ⌜ r ≡ judging (now (plan .entry)) ⌝ }
+    ensures { λ r. ⌜ Judges (now (plan .entry)) r ⌝ }
 {
     if plan_format::shape_wrong(plan) {
         return ReadAnswer::Refused(Refusal::Shape);
@@ -111,7 +112,7 @@ pub fn judge(plan: &[u8]) -> ReadAnswer
 
 // What reading a plan into a list of so many records answers.
 pub fn judge_in(plan: &[u8], room: usize) -> ReadAnswer
-    ensures { λ r. ⌜ r ≡ reading (now (plan .entry)) room ⌝ }
+    ensures { λ r. ⌜ JudgesIn (now (plan .entry)) room r ⌝ }
 {
     let a = judge(plan);
     match a {
@@ -150,7 +151,7 @@ fn fill(plan: &[u8], stations: &mut [Station], n: usize)
 
 // Reads a plan into the lent records. A refusal leaves them as they were.
 pub fn read(plan: &[u8], stations: &mut [Station]) -> ReadAnswer
-    ensures { λ r. ⌜ (r ≡ reading (now (plan .entry)) (length (now (stations .entry)))) × (now (stations .exit) ≡ stationsFrom (now (plan .entry)) 0 (readOf r) ++ drop (readOf r) (now (stations .entry))) ⌝ }
+    ensures { λ r. ⌜ ReadsPlan (now (plan .entry)) (now (stations .entry)) r (now (stations .exit)) ⌝ }
 {
     let a = judge_in(plan, stations.len());
     let n = read_of(a);

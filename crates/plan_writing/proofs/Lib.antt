@@ -1,3 +1,4 @@
+pub mod Promised
 pub mod WriteTests
 pub mod WriteStores
 pub mod WriteDraft

@@ -5,7 +5,7 @@ use mathlib.Core.Path.{_≡_, refl, sym, ap, subst, _∙_}
 use mathlib.Core.Bool.{Bool, true, false, cond, _||_}
 use mathlib.Core.List.{List, _++_}
 use lib.Dec.{ltb}
-use lib.ListN.{length, drop, getD}
+use lib.ListN.{length, take, drop, getD}
 use borrow.Author.Tests.{ltb-false, le-ltb}
 use Rattle.refusal.specs.declared.Refusal.{Refusal}
 use Rattle.refusal.specs.declared.Refusal.the-variants.{Shape, Field, Name, Output}
@@ -15,11 +15,13 @@ use Rattle.plan_format.specs.declared.WriteAnswer.the-variants.{Length, Refused
 use Rattle.plan_writing.specs.declared.Pen.{Pen}
 use Rattle.plan_format.specs.Lowest.{lowest}
 use Rattle.plan_format.specs.Reading.{any}
-use Rattle.plan_format.specs.Writing.{planOf, chosen, writing, left, noStation, fieldOut, wordOut}
+use Rattle.plan_format.specs.Writing.{planOf, writing, left, noStation, fieldOut, wordOut}
 use Rattle.plan_writing.specs.Steps.{Draft, drafted, NameSized, penOf, wanted, answered, writes}
 use Rattle.line.proofs.Fits.{or-false}
 use Rattle.plan_format.proofs.Lows.{lowest-full, lowest-none}
 use Rattle.plan_format.proofs.Names.{name-short}
+use Rattle.plan_writing.specs.Promises.{WritesPlan}
+use Rattle.plan_writing.proofs.Promised.{writes-as}
 use Rattle.plan_writing.proofs.WriteTests.{wanted-fits}
 use Rattle.plan_writing.proofs.WriteDraft.{drafted-zero}
 use Rattle.plan_writing.proofs.WriteSurvey.{spread, penAt, surveyed}
@@ -85,7 +87,7 @@ wanted-fit {n} {ss} f = simp (le-ltb n 1 (f .some), le-ltb 256 n (f .most), le-l
 
 module _ (n : ℕ) (ss : List Station) (room : ℕ) where
   abbrev plan : List ℕ
-  plan = planOf (chosen n ss)
+  plan = planOf (take n ss)
 
   abbrev ending : ℕ → WriteAnswer
   ending l = cond (ltb room l) (Refused Output) (Length l)
@@ -159,10 +161,10 @@ module _ {n : ℕ} {ss : List Station} {out mid last : List ℕ} {p q w r : Pen}
       ∙ ap (λ (v : Pen). drafted ss (v .n) (record { pen = v; out = mid }) .out) u
       ∙ ap (λ (ys : List ℕ). drafted ss (writes x (m f)) (record { pen = penOf (writes x (m f)) true; out = ys }) .out) (out-found f)
 
-  left-is : last ≡ left a (planOf (chosen n ss)) out
+  left-is : last ≡ left a (planOf (take n ss)) out
   left-is = go a refl
     where
-      go : (x : WriteAnswer) → a ≡ x → last ≡ left x (planOf (chosen n ss)) out
+      go : (x : WriteAnswer) → a ≡ x → last ≡ left x (planOf (take n ss)) out
       go (Refused c) e = passed (Refused c) e ∙ ap (λ (d : Draft). d .out) (drafted-zero ss (record { pen = penOf 0 true; out = out }))
       go (Length l) e =
           let y = accepted n ss (length out) l (sym answer-is ∙ e) in
@@ -173,7 +175,7 @@ module _ {n : ℕ} {ss : List Station} {out mid last : List ℕ} {p q w r : Pen}
           passed (Length l) e
           ∙ ap (λ (i : ℕ). drafted ss i (record { pen = penOf i true; out = out }) .out) z
           ∙ wrote ss n (y .fit .held) s k out (y .fit .most) (omega (arith, h, y .fits)) (y .fit .some)
-          ∙ ap (λ (i : ℕ). planOf (chosen n ss) ++ drop i out) (sym (y .size))
+          ∙ ap (λ (i : ℕ). planOf (take n ss) ++ drop i out) (sym (y .size))
 
-  pub written : (a ≡ writing n ss (length out)) × (last ≡ left a (planOf (chosen n ss)) out)
-  written = (answer-is, left-is)
+  pub written : WritesPlan ss n out a last
+  written = writes-as answer-is left-is

@@ -7,7 +7,8 @@ ghost use Prim.Native.Nat.{_+_, _*_, _<_, _≤_};
 ghost use lib.ListN.{length, take};
 ghost use lib.Seq.{sets};
 ghost use Rattle.words.specs.Le.{bytesOf};
-ghost use Rattle.plan_format.specs.Writing.{sizeOf, recordBytes, planOf, chosen, writing, left};
+ghost use Rattle.plan_format.specs.Writing.{sizeOf, recordBytes};
+ghost use Rattle.plan_writing.specs.Promises.{WritesPlan};
 ghost use Rattle.plan_writing.specs.Steps.{lower, counted, moved, ready, roomy, headed, placed, stepped, drafted, NameSized, penOf, wanted, answered, writes, headOf, tailOf};
 use line::Config;
 use plan_format::Station;
@@ -273,7 +274,7 @@ fn each(list: &[Station], out: &mut [u8], w: Pen) -> Pen
 // Writes the plan of the first n stations into the lent bytes, and answers its length. The bytes after the plan stay, and a refusal changes
 // nothing.
 pub fn write(stations: &[Station], n: u64, out: &mut [u8]) -> WriteAnswer
-    ensures { λ r. ⌜ (r ≡ writing n (now (stations .entry)) (length (now (out .entry)))) × (now (out .exit) ≡ left r (planOf (chosen n (now (stations .entry)))) (now (out .entry))) ⌝ }
+    ensures { λ r. ⌜ WritesPlan (now (stations .entry)) n (now (out .entry)) r (now (out .exit)) ⌝ }
 {
     let p = first_pen(n, stations.len());
     let q = each(stations, &mut *out, p);

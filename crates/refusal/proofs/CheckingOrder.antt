@@ -1,7 +1,7 @@
 -- What a call's answer says, by number: that of the first refusal that holds.
 use mathlib.Core.Path.{_≡_, refl, ap, _∙_}
 use mathlib.Core.Bool.{Bool, true, false, cond}
-use mathlib.Core.List.{List, [], _∷_}
+use mathlib.Core.List.{List, [], _∷_, _++_}
 use Prim.Native.Nat.{ℕ}
 use native.Mathlib.Omega.{arith}
 use Rattle.refusal.specs.declared.Refusal.{Refusal}
@@ -19,6 +19,11 @@ pub first-mapped : {A B : Type 0} (f : A → B) (refuse : Refusal → A) (cs : L
 first-mapped f refuse [] done = refl
 first-mapped f refuse (c ∷ cs) done =
     choice f (c .holds) (refuse (c .refusal)) (firstOf refuse cs done) ∙ ap (cond (c .holds) (f (refuse (c .refusal)))) (first-mapped f refuse cs done)
+
+-- of two lists, the second is asked where nothing of the first holds
+pub first-more : {A : Type 0} (refuse : Refusal → A) (cs ds : List Case) (done : A) → firstOf refuse (cs ++ ds) done ≡ firstOf refuse cs (firstOf refuse ds done)
+first-more refuse [] ds done = refl
+first-more refuse (c ∷ cs) ds done = ap (cond (c .holds) (refuse (c .refusal))) (first-more refuse cs ds done)
 
 -- ---- its number
 

@@ -17,11 +17,11 @@ read c = c .before .before .before .before .before
 
 -- the plan has so many stations
 stations : (c : tie.After-a2) → judging (now (c .before .before .before .before .before .args .plan)) ≡ Stations (c .a2 .given .0 .0)
-stations c = sym (c .before .before .judge .ensures) ∙ c .a2 .given .1
+stations c = sym (c .before .before .judge .ensures .answer) ∙ c .a2 .given .1
 
 -- at most 256
 at-most : (c : tie.After-a2) → c .a2 .given .0 .0 ≤ 256
-at-most c = few-stations _ (c .before .before .judge .ensures) (c .a2 .given .1)
+at-most c = few-stations _ (c .before .before .judge .ensures .answer) (c .a2 .given .1)
 
 -- ---- refusals
 
@@ -41,7 +41,7 @@ returns-5 : tie.Need-returns-5
 returns-5 c = unopened _ (short _ (stations (read (c .before))) _ _ _ (omega arith) (omega arith) (omega arith) (omega arith) (c .if5 .taken))
 
 returns-6 : tie.Need-returns-6
-returns-6 c = unread _ (sym (c .before .a .given .1) ∙ c .before .before .before .judge .ensures)
+returns-6 c = unread _ (sym (c .before .a .given .1) ∙ c .before .before .before .judge .ensures .answer)
 
 -- ---- the line is opened
 

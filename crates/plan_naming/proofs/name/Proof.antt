@@ -6,6 +6,8 @@ use denote.Enum.Laws as EL
 use Rattle.plan_format.specs.declared.NameAnswer.{NameAnswer}
 use Rattle.plan_naming.specs.declared.Named.{Named}
 use Rattle.plan_naming.specs.Naming.{naming, IsPart}
+use Rattle.plan_naming.specs.Promises.{ShowsName}
+use Rattle.plan_naming.proofs.Promised.{places}
 use Rattle.plan_naming.proofs.Parts.{shown-within}
 use Rattle.plan_format.proofs.NameAnswer as S
 use Rattle.plan_format.proofs.NameAnswer.Laws as S′
@@ -75,7 +77,7 @@ module _ {M : Type 1} (𝓤 : URA M) (H : Heap 𝓤) (A : Atoms 𝓤) (W : Given
   abbrev mach : NameAnswer → RefT (List ℕ) → Val
   mach r s = vstruct (vcons (answered r) (vcons (sliceVal (s .ptr) (length (s .now))) vnil))
 
-  exits : (r : NameAnswer) (s : RefT (List ℕ)) → Is S.the-row r (answered r ∷ []) → (r ≡ naming p k) × IsPart x s (naming p k)
+  exits : (r : NameAnswer) (s : RefT (List ℕ)) → Is S.the-row r (answered r ∷ []) → ShowsName x k (made r s)
       → ent 𝓤 (⋆ 𝓤 H A (‵ (Own s) ∷ (‵ (flft κ q) ⊛ ‵ ftrue) ∷ ‵ (Own x) ∷ [])) (Post (mach r s))
   exits r s is e =
       qed W (‵ (Own s) ∷ (‵ (flft κ q) ⊛ ‵ ftrue) ∷ ‵ (Own x) ∷ []) ∵
@@ -135,7 +137,7 @@ module _ {M : Type 1} (𝓤 : URA M) (H : Heap 𝓤) (A : Atoms 𝓤) (W : Given
         (init ! 12 refl (LL.lawful (T.the-type α) (T′.the-laws α) 𝓤 H A W .typed (made r s) (mach r s ∷ []) (LL.owes (T.the-type α) (T′.the-laws α) (made r s) (again r v is, (((refl, is′ .0 .1), (tt, tt)), tt))) .0)) $
         returns ! (look ! 12 refl) $ forget ! 4 refl $ forget ! 6 refl $ forget ! 8 refl $ forget ! 10 refl $ forget ! 12 refl $
         move ! (12 ∷ 13 ∷ []) $ free1 ! $ move ! (10 ∷ 11 ∷ []) $ free1 ! $ move ! (8 ∷ 9 ∷ []) $ free1 ! $ move ! (6 ∷ 7 ∷ []) $ free1 ! $ move ! (4 ∷ 5 ∷ []) $ free1 ! $ free0 ! $
-        keep ! (0 ∷ 1 ∷ 2 ∷ []) $ by ! (exits r s (again r v is) (e, subst (IsPart x s) e e′)))))))))))))))
+        keep ! (0 ∷ 1 ∷ 2 ∷ []) $ by ! (exits r s (again r v is) (record { places = places e; part = e′ })))))))))))))))
       where
         again : (r : NameAnswer) (v : Val) → Is S.the-row r (v ∷ []) → Is S.the-row r (answered r ∷ [])
         again r v is = subst (Is S.the-row r) (EL.tells S.the-type S′.the-laws r _ is) is

@@ -16,6 +16,7 @@ use Rattle.plan_format.specs.Plan.{begins, shapeWrong, fieldWrong, nameWrong}
 use Rattle.plan_format.specs.Reading.{judging}
 use Rattle.plan_format.proofs.Lows.{lowest-full}
 use Rattle.plan_format.proofs.Accepted.{shaped}
+use Rattle.plan_reading.proofs.Promised.{judges}
 use Rattle.plan_reading.proofs.Judging.{judged}
 use Rattle.plan_reading.proofs.judge.Statement.{statement}
 use Rattle.plan_reading.proofs.judge.Tie as tie
@@ -67,24 +68,24 @@ lowest-name-requires c κs =
 
 returns : tie.Need-returns
 unfolding judging
-returns c = rw (sym (c .before .shape-wrong .ensures) ∙ c .if1 .taken)
+returns c = judges (rw (sym (c .before .shape-wrong .ensures) ∙ c .if1 .taken))
 
 returns-2 : tie.Need-returns-2
 returns-2 c =
     let p = c .before in
-    rw (judged _ _ (p .before .load16 .ensures), shape (p .before .before), ← p .lowest-pair .ensures, lt-ltb _ _ (c .if2 .taken))
+    judges (rw (judged _ _ (p .before .load16 .ensures), shape (p .before .before), ← p .lowest-pair .ensures, lt-ltb _ _ (c .if2 .taken)))
 
 returns-3 : tie.Need-returns-3
-returns-3 c = rw (pairs (c .before .before), ← c .before .begin-of .ensures, lt-ltb _ _ (c .if3 .taken))
+returns-3 c = judges (rw (pairs (c .before .before), ← c .before .begin-of .ensures, lt-ltb _ _ (c .if3 .taken)))
 
 returns-4 : tie.Need-returns-4
-returns-4 c = rw (ends (c .before .before), ← c .before .lowest-field .ensures, lt-ltb _ _ (c .if4 .taken))
+returns-4 c = judges (rw (ends (c .before .before), ← c .before .lowest-field .ensures, lt-ltb _ _ (c .if4 .taken)))
 
 returns-5 : tie.Need-returns-5
-returns-5 c = rw (fields (c .before .before), ← c .before .lowest-name .ensures, lt-ltb _ _ (c .if5 .taken))
+returns-5 c = judges (rw (fields (c .before .before), ← c .before .lowest-name .ensures, lt-ltb _ _ (c .if5 .taken)))
 
 returns-6 : tie.Need-returns-6
-returns-6 c = rw (fields (c .before .before), ← c .before .lowest-name .ensures, le-ltb _ _ (c .if5 .left))
+returns-6 c = judges (rw (fields (c .before .before), ← c .before .lowest-name .ensures, le-ltb _ _ (c .if5 .left)))
 
 pub judge-spec : {M : Type 1} → statement M
 judge-spec =

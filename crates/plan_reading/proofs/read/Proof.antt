@@ -9,6 +9,7 @@ use Rattle.plan_format.specs.declared.ReadAnswer.{ReadAnswer}
 use Rattle.plan_format.specs.Lowest.{lowest}
 use Rattle.plan_format.specs.Plan.{pairWrong, stationsFrom}
 use Rattle.plan_format.specs.Reading.{reading, readOf}
+use Rattle.plan_reading.specs.Promises.{JudgesIn, ReadsPlan}
 use Rattle.plan_format.proofs.Accepted.{reading-readable}
 use Rattle.plan_format.proofs.Station as T
 use Rattle.plan_format.proofs.ReadAnswer as E
@@ -44,8 +45,8 @@ module _ {M : Type 1} (𝓤 : URA M) (H : Heap 𝓤) (A : Atoms 𝓤) (mem : Mem
   abbrev Fill : Contract 𝓤
   Fill = tripleOf 𝓤 H A fill.signature (fill.spec 𝓤 H A mem run)
 
-  judge-of : (κ : Lft) (x : RefT (List ℕ)) (k : ℕ) (r : ReadAnswer) → ent 𝓤 (ensured 𝓤 H A judge.ended (judge.clauses 𝓤 H A mem run) (κ, tt) (x, (k, tt)) tt r) (fact 𝓤 (r ≡ reading (x .now) k))
-  judge-of κ x k r = exE 𝓤 _ (λ ws. snd∗ 𝓤 (sem 𝓤 H A (lasts judge.ended (κ, tt) (x, (k, tt)) ws)) (fact 𝓤 (r ≡ reading (x .now) k)))
+  judge-of : (κ : Lft) (x : RefT (List ℕ)) (k : ℕ) (r : ReadAnswer) → ent 𝓤 (ensured 𝓤 H A judge.ended (judge.clauses 𝓤 H A mem run) (κ, tt) (x, (k, tt)) tt r) (fact 𝓤 (JudgesIn (x .now) k r))
+  judge-of κ x k r = exE 𝓤 _ (λ ws. snd∗ 𝓤 (sem 𝓤 H A (lasts judge.ended (κ, tt) (x, (k, tt)) ws)) (fact 𝓤 (JudgesIn (x .now) k r)))
 
   count-of : (r : ReadAnswer) (m : ℕ) → ent 𝓤 (ensured 𝓤 H A read-of.ended (read-of.clauses 𝓤 H A mem run) tt (r, tt) tt m) (fact 𝓤 (m ≡ readOf r))
   count-of r m = exE 𝓤 _ (λ ws. snd∗ 𝓤 (sem 𝓤 H A (lasts read-of.ended tt (r, tt) ws)) (fact 𝓤 (m ≡ readOf r)))
@@ -92,7 +93,7 @@ module _ {M : Type 1} (𝓤 : URA M) (H : Heap 𝓤) (A : Atoms 𝓤) (W : Given
   abbrev Post : Val → SProp 𝓤
   Post = walkOf 𝓤 H A read.ended stayed (read.clauses 𝓤 H A mem run) .post (((κ, (κ′, tt)), (q, (q′, tt)), tt, a, vals), tt)
 
-  exits : (r : ReadAnswer) (v : Val) (zs : List Station) → (r ≡ reading p (length ys)) × (zs ≡ left (readOf r)) → length zs ≡ length ys
+  exits : (r : ReadAnswer) (v : Val) (zs : List Station) → ReadsPlan p ys r zs → length zs ≡ length ys
       → ent 𝓤 (⋆ 𝓤 H A ((‵ (flft κ q) ⊛ ‵ (flft κ′ q′) ⊛ ‵ ftrue) ∷ ‵ Own ∷ ‵ (finally T.the-row γ zs) ∷ ‵ (E.the-row .own r (v ∷ [])) ∷ [])) (Post v)
   exits r v zs e l =
       qed W ((‵ (flft κ q) ⊛ ‵ (flft κ′ q′) ⊛ ‵ ftrue) ∷ ‵ Own ∷ ‵ (finally T.the-row γ zs) ∷ ‵ (E.the-row .own r (v ∷ [])) ∷ []) ∵
@@ -136,7 +137,7 @@ module _ {M : Type 1} (𝓤 : URA M) (H : Heap 𝓤) (A : Atoms 𝓤) (W : Given
         -- [what is asked; the other token; what plan owns; what stations owns; _8; …]
         calls-at ! fm (Judge 𝓤 H A mem run) known-judge to-judge (and-then ! (load ! (from ! (stop !)) (look ! 18 refl)) (and-then ! (load ! (from ! (stop !)) (look ! 10 refl)) (no-more !))) (λ v.
         use1 W (later (some (λ (r : ReadAnswer). ((‵ (flft κ q) ⊛ ‵ ftrue) ⊛ ‵ (E.the-row .own r (v ∷ []))) ⊛ raw (ensured 𝓤 H A judge.ended (judge.clauses 𝓤 H A mem run) (κ, tt) (x, (length ys, tt)) tt r)))) (id⊢ 𝓤 _) $ await ! tt $ pick ! (λ r.
-        split ! $ move ! (1 ∷ []) $ use1 W (raw (fact 𝓤 (r ≡ reading p (length ys)))) (judge-of 𝓤 H A mem run κ x (length ys) r) $ heard ! (r ≡ reading p (length ys)) (λ e. split ! $ move ! (1 ∷ []) $
+        split ! $ move ! (1 ∷ []) $ use1 W (raw (fact 𝓤 (JudgesIn p (length ys) r))) (judge-of 𝓤 H A mem run κ x (length ys) r) $ heard ! (JudgesIn p (length ys) r) (λ e. split ! $ move ! (1 ∷ []) $
         peeks ! E.the-row (Is E.the-row) (shows 𝓤 H A E.the-row) r (v ∷ []) (λ is.
         -- [what the answer owns; plan's token; the other token; what plan owns; what stations owns; _8; …; _7; …; _6; …; _5; …; _4; …; _3; …; _2; …; _1; …; _0; …]
         land ! (from ! (stop !)) (init ! 15 refl (EL.lawful E.the-type E′.the-laws 𝓤 H A W tt .typed r _ is .0)) $
@@ -150,7 +151,7 @@ module _ {M : Type 1} (𝓤 : URA M) (H : Heap 𝓤) (A : Atoms 𝓤) (W : Given
         assigns ! (agg ! (and-then ! (load ! (from ! (stop !)) (look ! 7 refl)) (and-then ! (load ! (from ! (fld ! refl (stop !))) (look-in ! 17 (sub ! 1 refl (whole !)))) (no-more !)))) (from ! (stop !)) (init ! 5 refl (tt, (tt, (record { fits = room .0 }, tt)))) $
         -- `fill`
         move ! (3 ∷ []) $ use1 W (‵ Own ⊛ ‵ Own) (shr-slice-copy 𝓤 H A W (named 0) κ u8 .twice x (xl ∷ [])) $ split ! $ move ! (5 ∷ []) $ fsplit ! $ move ! (4 ∷ 1 ∷ []) $ fjoin ! $ move ! (1 ∷ 0 ∷ []) $ fjoin ! $ move ! (1 ∷ 0 ∷ []) $ fjoin ! $
-        move ! (2 ∷ []) $ split ! $ move ! (1 ∷ []) $ drop ! $ move ! (0 ∷ 3 ∷ []) $ join ! $ use2 W (raw (Fill 𝓤 H A mem run .pre (to-fill m v′))) (goes-fill m v′ (subst Asked (sym (e′ ∙ ap readOf e)) asked)) $
+        move ! (2 ∷ []) $ split ! $ move ! (1 ∷ []) $ drop ! $ move ! (0 ∷ 3 ∷ []) $ join ! $ use2 W (raw (Fill 𝓤 H A mem run .pre (to-fill m v′))) (goes-fill m v′ (subst Asked (sym (e′ ∙ ap readOf (e .answer))) asked)) $
         -- [what is asked; what plan owns; _8; …; _7; …; _6; …; _5; …; _4; …; _3; …; _2; …; _1; …; _0; …]
         calls-at ! fm (Fill 𝓤 H A mem run) known-fill (to-fill m v′) (and-then ! (load ! (from ! (stop !)) (look ! 16 refl)) (and-then ! (load ! (from ! (stop !)) (look ! 2 refl)) (and-then ! (load ! (from ! (stop !)) (look ! 10 refl)) (no-more !)))) (λ v″.
         use1 W (later (some (λ (u : Unit {0}). ((‵ (flft κ q) ⊛ ‵ (flft κ′ q′) ⊛ ‵ ftrue) ⊛ ‵ (unit .own u (v″ ∷ []))) ⊛ raw (ensured 𝓤 H A fill.ended (fill.clauses 𝓤 H A mem run) (κ, (κ′, tt)) (x, (y, (m, tt))) tt u)))) (id⊢ 𝓤 _) $ await ! tt $ pick ! (λ u.
@@ -162,7 +163,7 @@ module _ {M : Type 1} (𝓤 : URA M) (H : Heap 𝓤) (A : Atoms 𝓤) (W : Given
         assigns ! (of-opd ! (load ! (from ! (stop !)) (look ! 14 refl))) (from ! (stop !)) (init ! 20 refl (EL.lawful E.the-type E′.the-laws 𝓤 H A W tt .typed r _ is .0)) $
         returns ! (look ! 20 refl) $ forget ! 4 refl $ forget ! 6 refl $ forget ! 8 refl $ forget ! 10 refl $ forget ! 12 refl $ forget ! 14 refl $ forget ! 16 refl $ forget ! 18 refl $ forget ! 20 refl $
         move ! (20 ∷ 21 ∷ []) $ free1 ! $ move ! (18 ∷ 19 ∷ []) $ free1 ! $ move ! (16 ∷ 17 ∷ []) $ free1 ! $ move ! (14 ∷ 15 ∷ []) $ free1 ! $ move ! (12 ∷ 13 ∷ []) $ free1 ! $ move ! (10 ∷ 11 ∷ []) $ free1 ! $ move ! (8 ∷ 9 ∷ []) $ free1 ! $ move ! (6 ∷ 7 ∷ []) $ free1 ! $ move ! (4 ∷ 5 ∷ []) $ free1 ! $ free0 ! $
-        owned ! E.the-row (Is E.the-row) (EL.makes E.the-type E′.the-plain 𝓤 H A) r (v ∷ []) is $ keep ! (1 ∷ 4 ∷ 2 ∷ 0 ∷ []) $ by ! (exits r v (zs .1 .0) (e, e″ ∙ ap left e′) l))))))))))))))))))))))))
+        owned ! E.the-row (Is E.the-row) (EL.makes E.the-type E′.the-plain 𝓤 H A) r (v ∷ []) is $ keep ! (1 ∷ 4 ∷ 2 ∷ 0 ∷ []) $ by ! (exits r v (zs .1 .0) (record { judges = e; records = e″ ∙ ap left e′ }) l))))))))))))))))))))))))
 
 module _ {M : Type 1} (𝓤 : URA M) (H : Heap 𝓤) (A : Atoms 𝓤) (W : Given 𝓤 H A) (mem : Memory → SProp 𝓤) (run : Routine → Fun 𝓤) where
   read-walks : (C : Calls 𝓤 H) (Λ : Loops 𝓤 H) → FmC 𝓤 H (W .laws) C → Triple 𝓤 (C #plan-reading·judge-in) (Judge 𝓤 H A mem run) → Triple 𝓤 (C #plan-reading·read-of) (ReadOf 𝓤 H A mem run) → Triple 𝓤 (C #plan-reading·fill) (Fill 𝓤 H A mem run)

@@ -6,7 +6,7 @@ use denote.Enum.Laws as EL
 use Rattle.plan_format.specs.declared.Station.{Station}
 use Rattle.plan_format.specs.declared.WriteAnswer.{WriteAnswer}
 use Rattle.plan_writing.specs.declared.Pen.{Pen}
-use Rattle.plan_format.specs.Writing.{planOf, chosen, writing, left}
+use Rattle.plan_writing.specs.Promises.{WritesPlan}
 use Rattle.plan_writing.specs.Steps.{drafted, NameSized, penOf, wanted, answered, writes}
 use Rattle.plan_writing.proofs.WriteAgain.{LentAgain, lends-again, comes-back}
 use Rattle.plan_writing.proofs.WriteLaw.{First, first-held, first-most, second-held, written}
@@ -97,7 +97,7 @@ module _ {M : Type 1} (𝓤 : URA M) (H : Heap 𝓤) (A : Atoms 𝓤) (W : Given
   abbrev Post : Val → SProp 𝓤
   Post = walkOf 𝓤 H A write.ended stayed (write.clauses 𝓤 H A mem run) .post (((κ, (κ′, tt)), (q, (q′, tt)), tt, a, vals), tt)
 
-  exits : (r : WriteAnswer) (v : Val) (zs : List ℕ) → (r ≡ writing n ss (length ys)) × (zs ≡ left r (planOf (chosen n ss)) ys) → length zs ≡ length ys
+  exits : (r : WriteAnswer) (v : Val) (zs : List ℕ) → WritesPlan ss n ys r zs → length zs ≡ length ys
       → ent 𝓤 (⋆ 𝓤 H A ((‵ (flft κ q) ⊛ ‵ (flft κ′ q′) ⊛ ‵ ftrue) ∷ ‵ Own ∷ ‵ (finally u8 γ zs) ∷ ‵ (E.the-row .own r (v ∷ [])) ∷ [])) (Post v)
   exits r v zs e l =
       qed W ((‵ (flft κ q) ⊛ ‵ (flft κ′ q′) ⊛ ‵ ftrue) ∷ ‵ Own ∷ ‵ (finally u8 γ zs) ∷ ‵ (E.the-row .own r (v ∷ [])) ∷ []) ∵

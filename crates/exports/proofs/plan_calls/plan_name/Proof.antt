@@ -19,7 +19,7 @@ use denote.Struct.Laws as LL
 use denote.Triple.Walked.{gave-ref, goes-gave-ref}
 use Rattle.plan_format.specs.declared.NameAnswer.{NameAnswer}
 use Rattle.plan_naming.specs.declared.Named.{Named}
-use Rattle.plan_naming.specs.Naming.{naming, IsPart}
+use Rattle.plan_naming.specs.Promises.{PlacesName, ShowsName}
 use Rattle.plan_format.proofs.NameAnswer as S
 use Rattle.plan_format.proofs.NameAnswer.Laws as S′
 use Rattle.plan_naming.proofs.Named as T
@@ -44,10 +44,6 @@ stayed = (
   (stay-none (λ _. u64) keeps, (gave-ref (1 ∷ []) tt (arrayOf (plain (λ _. u64)) 2), tt)),
 )
 
--- what `name` says: where the name of station k stands in the bytes x, and that the part is it
-abbrev Shown : RefT (List ℕ) → ℕ → Named → Type 0
-Shown x k h = (h .answer ≡ naming (x .now) k) × IsPart x (h .part) (naming (x .now) k)
-
 module _ {M : Type 1} (𝓤 : URA M) (H : Heap 𝓤) (A : Atoms 𝓤) (mem : Memory → SProp 𝓤) (run : Routine → Fun 𝓤) where
   -- the contracts that the proof cites
   abbrev Name : Contract 𝓤
@@ -57,8 +53,8 @@ module _ {M : Type 1} (𝓤 : URA M) (H : Heap 𝓤) (A : Atoms 𝓤) (mem : Mem
   Tell = tripleOf 𝓤 H A tell.signature (tell.spec 𝓤 H A mem run)
 
   shown-of : (κ : Lft) (x : RefT (List ℕ)) (k : ℕ) (h : Named)
-      → ent 𝓤 (ensured 𝓤 H A name.ended (name.clauses 𝓤 H A mem run) (κ, tt) (x, (k, tt)) tt h) (fact 𝓤 (Shown x k h))
-  shown-of κ x k h = exE 𝓤 _ (λ ws. snd∗ 𝓤 (sem 𝓤 H A (lasts name.ended (κ, tt) (x, (k, tt)) ws)) (fact 𝓤 (Shown x k h)))
+      → ent 𝓤 (ensured 𝓤 H A name.ended (name.clauses 𝓤 H A mem run) (κ, tt) (x, (k, tt)) tt h) (fact 𝓤 (ShowsName x k h))
+  shown-of κ x k h = exE 𝓤 _ (λ ws. snd∗ 𝓤 (sem 𝓤 H A (lasts name.ended (κ, tt) (x, (k, tt)) ws)) (fact 𝓤 (ShowsName x k h)))
 
 module _ {M : Type 1} (𝓤 : URA M) (H : Heap 𝓤) (A : Atoms 𝓤) (W : Given 𝓤 H A) (mem : Memory → SProp 𝓤) (run : Routine → Fun 𝓤)
     (κ κ′ : Lft) (q q′ : Share) (x : RefT (List ℕ)) (k : ℕ) (z : RefT (List ℕ)) (x-room : Room u8 (length (x .now))) (k-fits : k < 2 ^ 64) where
@@ -103,7 +99,7 @@ module _ {M : Type 1} (𝓤 : URA M) (H : Heap 𝓤) (A : Atoms 𝓤) (W : Given
   abbrev Post : Val → SProp 𝓤
   Post = walkOf 𝓤 H A call.ended stayed (call.clauses 𝓤 H A mem run) .post (((κ, (κ′, tt)), (q, (q′, tt)), tt, a, vals), tt)
 
-  exits : (r : NameAnswer) (c : ℕ) (v : Val) (ws : List ℕ) → r ≡ naming (x .now) k → Told r c ws
+  exits : (r : NameAnswer) (c : ℕ) (v : Val) (ws : List ℕ) → PlacesName (x .now) k r → Told r c ws
       → ent 𝓤
       (⋆ 𝓤 H A
       ((‵ (flft κ q) ⊛ ‵ ftrue) ∷ (‵ (flft κ′ q′) ⊛ ‵ ftrue) ∷ ‵ Own ∷ ‵ (fres (z .name) (Numbers .coded .code ws)) ∷ ‵ (u64 .own c (v ∷ [])) ∷ []))
@@ -164,7 +160,7 @@ module _ {M : Type 1} (𝓤 : URA M) (H : Heap 𝓤) (A : Atoms 𝓤) (W : Given
         (later (some (λ (h : Named).
         ((‵ (flft κ q) ⊛ ‵ ftrue) ⊛ ‵ (T.the-row α .own h (v ∷ []))) ⊛ raw (ensured 𝓤 H A name.ended (name.clauses 𝓤 H A mem run) (κ, tt) (x, (k, tt)) tt h))))
         (id⊢ 𝓤 _) $ await ! tt $ pick ! (λ h. split ! $ move ! (1 ∷ []) $
-        use1 W (raw (fact 𝓤 (Shown x k h))) (shown-of 𝓤 H A mem run κ x k h) $ heard ! (Shown x k h) (λ e. split ! $ move ! (1 ∷ []) $
+        use1 W (raw (fact 𝓤 (ShowsName x k h))) (shown-of 𝓤 H A mem run κ x k h) $ heard ! (ShowsName x k h) (λ e. split ! $ move ! (1 ∷ []) $
         peeks ! (T.the-row α) (Is (T.the-row α)) (shows 𝓤 H A (T.the-row α)) h (v ∷ []) (λ is. drop ! $
         -- [the token; the other token; what the numbers own; what plan owns; _6; …]
         land ! (from ! (stop !)) (init ! 8 refl (LL.lawful (T.the-type αᵉ) (T′.the-laws αᵉ) 𝓤 H A W .typed h _ is .0)) $
@@ -195,7 +191,7 @@ module _ {M : Type 1} (𝓤 : URA M) (H : Heap 𝓤) (A : Atoms 𝓤) (W : Given
         forget ! 5 refl $ forget ! 7 refl $ forget ! 9 refl $ forget ! 11 refl $ forget ! 13 refl $ forget ! 15 refl $ forget ! 17 refl $
         move ! (17 ∷ 18 ∷ []) $ free1 ! $ move ! (15 ∷ 16 ∷ []) $ free1 ! $ move ! (13 ∷ 14 ∷ []) $ free1 ! $ move ! (11 ∷ 12 ∷ []) $ free1 ! $
         move ! (9 ∷ 10 ∷ []) $ free1 ! $ move ! (7 ∷ 8 ∷ []) $ free1 ! $ move ! (5 ∷ 6 ∷ []) $ free1 ! $ free0 ! $
-        keep ! (3 ∷ 1 ∷ 4 ∷ 2 ∷ 0 ∷ []) $ by ! (exits (h .answer) c v′ (ws .1 .0) (e .0) e′)))))))))))))))))
+        keep ! (3 ∷ 1 ∷ 4 ∷ 2 ∷ 0 ∷ []) $ by ! (exits (h .answer) c v′ (ws .1 .0) (e .places) e′)))))))))))))))))
 
 module _ {M : Type 1} (𝓤 : URA M) (H : Heap 𝓤) (A : Atoms 𝓤) (W : Given 𝓤 H A) (mem : Memory → SProp 𝓤) (run : Routine → Fun 𝓤) where
   plan-name-walks : (C : Calls 𝓤 H) (Λ : Loops 𝓤 H) → FmC 𝓤 H (W .laws) C → Triple 𝓤 (C #plan-naming·name) (Name 𝓤 H A mem run)

@@ -15,13 +15,10 @@ use denote.RattleType.{RattleType}
 use denote.Ref.{MutRef, mut-tells, ptr-vals}
 use denote.Signature.Array.{arrayOf}
 use denote.Triple.Walked.{gave-ref, goes-gave-ref}
-use mathlib.Core.List.{_++_}
 use mir.Val.{vptr}
-use lib.ListN.{drop as dropN}
 use Rattle.plan_format.specs.declared.Station.{Station}
 use Rattle.plan_format.specs.declared.ReadAnswer.{ReadAnswer}
-use Rattle.plan_format.specs.Plan.{stationsFrom}
-use Rattle.plan_format.specs.Reading.{reading, readOf}
+use Rattle.plan_reading.specs.Promises.{ReadsPlan}
 use Rattle.plan_format.proofs.Station as T
 use Rattle.plan_format.proofs.ReadAnswer as E
 use Rattle.plan_format.proofs.ReadAnswer.Laws as E′
@@ -76,7 +73,7 @@ module _ {M : Type 1} (𝓤 : URA M) (H : Heap 𝓤) (A : Atoms 𝓤) (W : Given
 
   -- what the answer is and leaves in the records, and what is told of it
   abbrev Answered : ReadAnswer → List Station → Type 0
-  Answered r ss = (r ≡ reading (x .now) (length (y .now))) × (ss ≡ stationsFrom (x .now) 0 (readOf r) ++ dropN (readOf r) (y .now))
+  Answered r ss = ReadsPlan (x .now) (y .now) r ss
 
   abbrev Told : ReadAnswer → ℕ → List ℕ → Type 0
   Told r n ws = (n ≡ readCode r) × (ws ≡ readValues r (z .now))
@@ -103,7 +100,7 @@ module _ {M : Type 1} (𝓤 : URA M) (H : Heap 𝓤) (A : Atoms 𝓤) (W : Given
       suffices ! _
       (ends-at 𝓤 H A call.ended stayed (call.clauses 𝓤 H A mem run) W (((κ, (κ′, (κ″, tt))), (q, (q′, (q″, tt))), tt, a, vals), tt) v n
       (tt, (ss, (ws, tt))) (tt, (l, (tt, tt)))) $
-      says ! (r, e .0, e .1, e′ .0, e′ .1) $
+      says ! (r, e, e′ .0, e′ .1) $
       split ! $ move ! (1 ∷ []) $ split ! $ move ! (1 ∷ []) $ drop ! $ move ! (0 ∷ 2 ∷ []) $ join ! $ move ! (1 ∷ 0 ∷ []) $ join ! $ frame ! $
       nothing ! $ move ! (3 ∷ 0 ∷ []) $ fjoin ! $ move ! (2 ∷ 0 ∷ []) $ fjoin ! $ move ! (1 ∷ 0 ∷ []) $ fjoin ! $ done !
 

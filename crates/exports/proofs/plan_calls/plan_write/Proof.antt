@@ -18,7 +18,7 @@ use denote.Signature.Array.{arrayOf}
 use denote.Triple.Walked.{gave-ref, goes-gave-ref}
 use Rattle.plan_format.specs.declared.Station.{Station}
 use Rattle.plan_format.specs.declared.WriteAnswer.{WriteAnswer}
-use Rattle.plan_format.specs.Writing.{writing, planOf, chosen, left}
+use Rattle.plan_writing.specs.Promises.{WritesPlan}
 use Rattle.plan_format.proofs.Station as T
 use Rattle.plan_format.proofs.WriteAnswer as E
 use Rattle.plan_format.proofs.WriteAnswer.Laws as E′
@@ -76,7 +76,7 @@ module _ {M : Type 1} (𝓤 : URA M) (H : Heap 𝓤) (A : Atoms 𝓤) (W : Given
 
   -- what the answer is and leaves in the bytes, and what is told of it
   abbrev Answered : WriteAnswer → List ℕ → Type 0
-  Answered r bs = (r ≡ writing n (x .now) (length (y .now))) × (bs ≡ left r (planOf (chosen n (x .now))) (y .now))
+  Answered r bs = WritesPlan (x .now) n (y .now) r bs
 
   abbrev Told : WriteAnswer → ℕ → List ℕ → Type 0
   Told r c ws = (c ≡ writeCode r) × (ws ≡ writeValues r (z .now))
@@ -103,7 +103,7 @@ module _ {M : Type 1} (𝓤 : URA M) (H : Heap 𝓤) (A : Atoms 𝓤) (W : Given
       suffices ! _
       (ends-at 𝓤 H A call.ended stayed (call.clauses 𝓤 H A mem run) W (((κ, (κ′, (κ″, tt))), (q, (q′, (q″, tt))), tt, a, vals), tt) v c
       (tt, (tt, (bs, (ws, tt)))) (tt, (tt, (l, (tt, tt))))) $
-      says ! (r, e .0, e .1, e′ .0, e′ .1) $
+      says ! (r, e, e′ .0, e′ .1) $
       split ! $ move ! (1 ∷ []) $ split ! $ move ! (1 ∷ []) $ drop ! $ move ! (0 ∷ 2 ∷ []) $ join ! $ move ! (1 ∷ 0 ∷ []) $ join ! $ frame ! $
       nothing ! $ move ! (3 ∷ 0 ∷ []) $ fjoin ! $ move ! (2 ∷ 0 ∷ []) $ fjoin ! $
       owned ! u64 (Is u64) (uint-makes 𝓤 H A W w64) n _ (refl, n-fits) $ fjoin ! $ move ! (1 ∷ 0 ∷ []) $ fjoin ! $ done !
