@@ -14,7 +14,7 @@ use Rattle.rules.specs.Engine.{Commit}
 use Rattle.entry.specs.Entry.{entries}
 use Rattle.engine_index.specs.Represents.{Cell, hasRun}
 use Rattle.engine_events.specs.Represents.{heldOf, Holds}
-use Rattle.engine_promises.specs.Steps.{atMost, Judges}
+use Rattle.engine_promises.specs.Steps.{atMost, JudgesCall}
 use Rattle.engine_committing.specs.declared.CommitJudged.{CommitJudged}
 use Rattle.engine_committing.specs.declared.CommitJudged.the-variants as J
 
@@ -61,5 +61,5 @@ pub record CommitPasses (n c time count room : ℕ) (xs : List ℕ) : Type 0 whe
   pub room-is : 24 * count ≤ room
 
 pub record JudgesCommit (time room : ℕ) (xs : List ℕ) (r : CommitJudged) : Type 0 where
-  pub number : (output : List ℕ) → length output ≡ room → Judges (Commit time output) (commitVerdict r) xs
+  pub number : (output : List ℕ) → length output ≡ room → JudgesCall (Commit time output) (commitVerdict r) xs
   pub passes : (n c count : ℕ) → r ≡ J.Accepts n c count → CommitPasses n c time count room xs

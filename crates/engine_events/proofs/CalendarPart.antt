@@ -12,7 +12,8 @@ use Rattle.words.proofs.Cases.{lt-or}
 use Rattle.words.specs.Le.{leAt, loadAt}
 use Rattle.words.proofs.Total.{load-in}
 use Rattle.rings.specs.Table.{Outside, Frame}
-use Rattle.engine_events.specs.Represents.{calendarAt, calendarBytes, part}
+use Rattle.engine_events.specs.Represents.{calendarAt, part}
+use Rattle.refusal.specs.Tests.{calendarBytes}
 
 -- ---- bytes and numbers
 

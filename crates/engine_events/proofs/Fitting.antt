@@ -10,7 +10,8 @@ use lib.ListN.{length}
 use Rattle.line.specs.Station.{Plan}
 use Rattle.rules.specs.Held.{Queue}
 use Rattle.engine_index.specs.Represents.{Cell}
-use Rattle.engine_events.specs.Represents.{fitsIn, calendarAt, calendarBytes, Stores}
+use Rattle.engine_events.specs.Represents.{fitsIn, calendarAt, Stores}
+use Rattle.refusal.specs.Tests.{calendarBytes}
 
 module _ (n c k : ℕ) where
   pub fits-over : 256 < n → false ≡ fitsIn n c k

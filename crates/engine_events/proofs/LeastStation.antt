@@ -8,7 +8,7 @@ use Prim.Native.Nat.{ℕ, _+_, _-_, _*_, _≤_, _<_}
 use native.Mathlib.Omega.{arith}
 use lib.ListN.{length, take, drop, List·getD-eq-default}
 use Rattle.words.proofs.Cases.{lt-or}
-use Rattle.refusal.specs.Tests.{accepted, refused, orNext, judged, says}
+use Rattle.refusal.specs.Tests.{accepted, refused, orNext, judged, says, calendarBytes}
 use Rattle.refusal.specs.Numbers.{numberOf}
 use Rattle.line.specs.Station.{Plan}
 use Rattle.rules.specs.Held.{Held, Queue}
@@ -20,7 +20,7 @@ use Rattle.calendar.proofs.Tests.{none-some, none-false}
 use Rattle.engine_events.specs.Shows.{Shows}
 use Rattle.engine_events.proofs.CalendarShown.{named-lowest, named-time, none-shows}
 use Rattle.engine_index.specs.Represents.{Cell}
-use Rattle.engine_events.specs.Represents.{fitsIn, calendarAt, calendarBytes, part, Holds}
+use Rattle.engine_events.specs.Represents.{fitsIn, calendarAt, part, Holds}
 use Rattle.engine_events.specs.Promises.{Finds}
 use Rattle.engine_events.proofs.Fitting.{fits-gone}
 

@@ -7,7 +7,7 @@ use mathlib.Core.List.{List, [], _∷_, _++_, List·Memᴰ}
 use Prim.Native.Nat.{ℕ, _+_, _*_, _≤_, _<_}
 use lib.Dec.{eqb, leb}
 use lib.ListN.{length, take, drop, getD}
-use Rattle.refusal.specs.Tests.{horizon}
+use Rattle.refusal.specs.Tests.{horizon, calendarBytes, engineBytes}
 use Rattle.words.specs.Le.{loadAt}
 use Rattle.line.specs.declared.Event.{Event}
 use Rattle.line.specs.declared.State.{State}
@@ -24,14 +24,11 @@ use Rattle.engine_index.specs.Represents.{Cell, cell, Stands}
 
 -- "32768 + 256·N + 256·capacity bytes" are enough
 abbrev pub fitsIn : ℕ → ℕ → ℕ → Bool
-fitsIn n c bytes = leb n 256 && (leb c 4096 && leb (32768 + 256 * n + 256 * c) bytes)
+fitsIn n c bytes = leb n 256 && (leb c 4096 && leb (engineBytes n c) bytes)
 
 -- the calendar's part stands after the log's links
 abbrev pub calendarAt : ℕ → ℕ → ℕ
 calendarAt n c = logAt n c + 4 * nodesOf n c
-
-abbrev pub calendarBytes : ℕ → ℕ
-calendarBytes n = 32768 + 64 * n
 
 abbrev pub part : ℕ → ℕ → List ℕ → List ℕ
 part n c xs = take (calendarBytes n) (drop (calendarAt n c) xs)
@@ -74,7 +71,7 @@ Kids p n xs cells = (x : ℕ) (e : Event) (b : State) → Has (cell x (ran e b))
 pub record Stores (p : Plan) (n c now : ℕ) (xs : List ℕ) (q : Queue) (cells : List Cell) : Type 0 where
   pub count : p .count ≡ n
   pub some : 1 ≤ c
-  pub long : 32768 + 256 * n + 256 * c ≤ length xs
+  pub long : engineBytes n c ≤ length xs
   pub configs : (s : ℕ) → s < n → storedConfig (stationRow n s) xs ≡ p .config s
   pub states : (s : ℕ) → s < n → stateAt (stationRow n s + 32) xs ≡ q .states s
   pub free : List ℕ

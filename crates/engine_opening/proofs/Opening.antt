@@ -1,5 +1,6 @@
 -- An opening: which test answers, and where none does the bytes stand for the opened engine.
 use mathlib.Core.Path.{_≡_, refl, sym, ap, _∙_, subst}
+use mathlib.Core.Bool.{cond}
 use mathlib.Core.List.{List, []}
 use Prim.Native.Nat.{ℕ, _+_, _*_, _≤_, _<_}
 use native.Mathlib.Omega.{arith}
@@ -7,6 +8,10 @@ use borrow.Author.Tests.{lt-ltb, le-ltb}
 use lib.ListN.{length}
 use Rattle.refusal.specs.declared.Refusal.{Refusal}
 use Rattle.refusal.specs.declared.Refusal.the-variants.{Width, Space}
+use Rattle.refusal.specs.Numbers.{stationsOf}
+use Rattle.refusal.specs.Tests.{widthOut, engineSpaceOut, judged}
+use Rattle.refusal.specs.Cases.{firstOf, checksOf}
+use Rattle.refusal.proofs.CheckingOrder.{first-mapped, first-judged}
 use Rattle.words.specs.Le.{storeAt}
 use Rattle.words.proofs.Laws.{length-store}
 use Rattle.line.specs.Station.{InRange, initial}
@@ -15,19 +20,21 @@ use Rattle.rules.specs.Demand.{end}
 use Rattle.plan_format.specs.declared.ReadAnswer.{ReadAnswer}
 use Rattle.plan_format.specs.declared.ReadAnswer.the-variants.{Stations, Refused as Unread}
 use Rattle.plan_format.specs.Plan.{count, stationAt}
-use Rattle.plan_format.specs.Reading.{judging}
+use Rattle.plan_format.specs.Reading.{planCases, judging}
 use Rattle.plan_format.proofs.Accepted.{Accepted, accepted, accepted-in-range}
 use Rattle.engine_rows.specs.Layout.{stationRow}
 use Rattle.engine_records.specs.Records.{stateAt, storedConfig}
 use Rattle.engine_rows.proofs.Rows.{word-in, config-in, state-in, header-station, row-other}
-use Rattle.engine_events.specs.Represents.{Holds}
+use Rattle.calendar.specs.Bytes.{stateOf}
+use Rattle.engine_events.specs.Represents.{part, Holds}
 use Rattle.engine_events.specs.Promises.{AfterHeader}
 use Rattle.engine_moves.specs.Promises.{ClearsEvents}
 use Rattle.engine_events.proofs.Fitting.{fits-in}
 use Rattle.engine_answers.specs.declared.OpenAnswer.{OpenAnswer}
 use Rattle.engine_answers.specs.declared.OpenAnswer.the-variants.{Done, Refused as Unopened}
 use Rattle.engine_promises.specs.Represents.{lineOf, Represents}
-use Rattle.engine_promises.specs.Promises.{opening, Opens}
+use Rattle.engine_promises.specs.Answers.{openSays, openStation}
+use Rattle.engine_promises.specs.Promises.{openCases, Opens}
 use Rattle.engine_opening.specs.Steps.{Begun}
 use Rattle.engine_promises.proofs.Header.{header-word, header-other, header-kept}
 
@@ -35,6 +42,15 @@ pub few-stations : (plan : List ℕ) {n : ℕ} {r : ReadAnswer} → r ≡ judgin
 few-stations plan {n} e f = accepted plan n (sym e ∙ f) .most
 
 -- ---- the answer
+
+-- by the plan's answer
+abbrev opening : ReadAnswer → ℕ → ℕ → ℕ → OpenAnswer
+opening (Unread e) width capacity bytes = Unopened e
+opening (Stations n) width capacity bytes = cond (widthOut width) (Unopened Width) (cond (engineSpaceOut n capacity bytes) (Unopened Space) Done)
+
+opening-is : (plan : List ℕ) (width capacity bytes : ℕ) → opening (judging plan) width capacity bytes ≡ firstOf Unopened (openCases plan width capacity bytes) Done
+unfolding judging
+opening-is plan width capacity bytes = first-mapped (λ a. opening a width capacity bytes) Unread (planCases plan) (Stations (count plan))
 
 module _ (plan : List ℕ) {n : ℕ} (e : judging plan ≡ Stations n) (width capacity bytes : ℕ) where
   abbrev said : OpenAnswer
@@ -110,8 +126,14 @@ module _ {plan : List ℕ} {n c width : ℕ} {xs ys zs : List ℕ} (e : judging 
   size : length (headed n c ys) ≡ length xs
   size = length-headed n c ys ∙ B .size
 
+  clears : Holds (lineOf plan) n c 0 zs (opened (lineOf plan) c .queue) [] × (stateOf (part n c zs) .width ≡ width)
+  clears = C (lineOf plan) counts (a .some) (omega arith) (fits-in n c (length (headed n c ys)) (a .most) k (rw size l)) g h configs states
+
   holds : Holds (lineOf plan) n c 0 zs (opened (lineOf plan) c .queue) []
-  holds = C (lineOf plan) counts (a .some) (omega arith) (fits-in n c (length (headed n c ys)) (a .most) k (rw size l)) g h configs states .0
+  holds = clears .0
+
+  wide-as : stateOf (part (count plan) c zs) .width ≡ width
+  wide-as = ap (λ (m : ℕ). stateOf (part m c zs) .width) (sym (a .counted)) ∙ clears .1
 
   long : 64 ≤ length ys
   long = omega (arith, B .size)
@@ -139,10 +161,28 @@ module _ {plan : List ℕ} {n c width : ℕ} {xs ys zs : List ℕ} (e : judging 
 
 -- ---- the call
 
+-- what an answer says that is the first of the cases
+module _ {plan : List ℕ} {width capacity : ℕ} {xs : List ℕ} {r : OpenAnswer} (e : r ≡ opening (judging plan) width capacity (length xs)) where
+  first-is : r ≡ firstOf Unopened (openCases plan width capacity (length xs)) Done
+  first-is = e ∙ opening-is plan width capacity (length xs)
+
+  number-is : openSays r ≡ judged (checksOf (openCases plan width capacity (length xs)))
+  number-is = ap openSays first-is ∙ first-judged openSays Unopened (openCases plan width capacity (length xs)) Done (λ f. refl) refl
+
+  station-is : openStation r ≡ firstOf stationsOf (openCases plan width capacity (length xs)) []
+  station-is = ap openStation first-is ∙ first-mapped openStation Unopened (openCases plan width capacity (length xs)) Done
+
 -- a refusal changes nothing
 pub unopened : {plan : List ℕ} {width capacity : ℕ} {xs : List ℕ} (r : Refusal) → Unopened r ≡ opening (judging plan) width capacity (length xs)
     → Opens plan width capacity xs (Unopened r) xs
-unopened r e = record { answer = e; refusal = λ f q. refl; opens = λ q. let z : _≡_ {A = ℕ} 0 1 = cc in absurd (omega arith) }
+unopened r e = record {
+  answer = first-is e;
+  number = number-is e;
+  station = station-is e;
+  refusal = λ f q. refl;
+  opens = λ q. let z : _≡_ {A = ℕ} 0 1 = cc in absurd (omega arith);
+  width-is = λ q. let z : _≡_ {A = ℕ} 0 1 = cc in absurd (omega arith);
+}
 
 pub unread : {plan : List ℕ} {width capacity : ℕ} {xs : List ℕ} (r : Refusal) → Unread r ≡ judging plan → Opens plan width capacity xs (Unopened r) xs
 unread {width = width} {capacity = capacity} {xs = xs} r e = unopened r (ap (λ (a : ReadAnswer). opening a width capacity (length xs)) e)
@@ -152,8 +192,14 @@ pub opened-call : {plan : List ℕ} {n c width : ℕ} {xs y₀ y₁ y₂ y₃ y�
     → y₄ ≡ storeAt 8 24 0 y₃ → AfterHeader y₄ zs → ClearsEvents n c width y₄ zs → Opens plan width c xs Done zs
 opened-call {plan} {n} {c} {width} {xs} {y₀} {y₁} {y₂} {y₃} {y₄} {zs} e g h j k l B a₁ a₂ a₃ a₄ F C =
     let q : y₄ ≡ headed n c y₀ = rw (a₄, a₃, a₂, a₁) in
+    let F′ = subst (λ (us : List ℕ). AfterHeader us zs) q F in
+    let C′ = subst (λ (us : List ℕ). ClearsEvents n c width us zs) q C in
+    let d : Done ≡ opening (judging plan) width c (length xs) = done plan e width c (length xs) g h j k l in
     record {
-      answer = done plan e width c (length xs) g h j k l;
+      answer = first-is d;
+      number = number-is d;
+      station = station-is d;
       refusal = λ r z. let z : _≡_ {A = ℕ} 0 1 = cc in absurd (omega arith);
-      opens = λ _. opens e g h j k l B (subst (λ (us : List ℕ). AfterHeader us zs) q F) (subst (λ (us : List ℕ). ClearsEvents n c width us zs) q C);
+      opens = λ _. opens e g h j k l B F′ C′;
+      width-is = λ _. wide-as e g h j k l B F′ C′;
     }

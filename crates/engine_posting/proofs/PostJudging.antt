@@ -20,14 +20,14 @@ use Rattle.rules.specs.Engine.{Engine, Post}
 use Rattle.rules.specs.Calls.{postOf}
 use Rattle.engine_rollback.proofs.Cells.{held-length}
 use Rattle.engine_promises.specs.Represents.{Represents}
-use Rattle.engine_promises.specs.Steps.{atMost, Judges, Full}
+use Rattle.engine_promises.specs.Steps.{atMost, JudgesCall, Full}
 use Rattle.engine_promises.proofs.Header.{fits-read}
 use Rattle.engine_promises.proofs.PostRunChecks.{post-9, post-10, post-11, post-12, post-16, post-17, post-accepted}
 use Rattle.engine_posting.specs.declared.PostJudged.the-variants as P
 use Rattle.engine_posting.specs.Steps.{JudgesPost}
 
 -- a refusal
-pub post-refused : {s t kind value : ℕ} {xs : List ℕ} (r : Refusal) → Judges (Post s t kind value) (refused (numberOf r)) xs → JudgesPost s t kind value xs (P.Refused r)
+pub post-refused : {s t kind value : ℕ} {xs : List ℕ} (r : Refusal) → JudgesCall (Post s t kind value) (refused (numberOf r)) xs → JudgesPost s t kind value xs (P.Refused r)
 post-refused r f = record { number = f; event = λ n c x q. let z : _≡_ {A = ℕ} 0 1 = cc in absurd (omega arith) }
 
 module _ {xs : List ℕ} {n c : ℕ} (S : n ≡ atMost 256 (loadAt 8 0 xs)) (K : c ≡ atMost 4096 (loadAt 8 8 xs)) (s t kind value : ℕ) where
@@ -37,26 +37,26 @@ module _ {xs : List ℕ} {n c : ℕ} (S : n ≡ atMost 256 (loadAt 8 0 xs)) (K :
   capacity-is : {p : Plan} {e : Engine} → Represents p e xs → e .capacity ≡ c
   capacity-is R = fits-read R S K .1
 
-  pub station-out : n ≤ s → Judges (Post s t kind value) (refused 9) xs
+  pub station-out : n ≤ s → JudgesCall (Post s t kind value) (refused 9) xs
   station-out h = record { says = λ p e R. post-9 p e s t kind value (omega (arith, stations-are R)) }
 
   module _ (h : s < n) where
-    pub matter-unsuited : (r : Refusal) → matterOf n kind value ≡ Unsuited r → Judges (Post s t kind value) (refused 10) xs
+    pub matter-unsuited : (r : Refusal) → matterOf n kind value ≡ Unsuited r → JudgesCall (Post s t kind value) (refused 10) xs
     matter-unsuited r k =
         record { says = λ p e R. post-10 p e s t kind value (omega (arith, stations-are R)) r (rw (stations-are R) k) }
 
     module _ (m : Matter) (k : matterOf n kind value ≡ Means m) where
-      pub time-late : horizon < t → Judges (Post s t kind value) (refused 11) xs
+      pub time-late : horizon < t → JudgesCall (Post s t kind value) (refused 11) xs
       time-late l =
           record { says = λ p e R. post-11 p e s t kind value (omega (arith, stations-are R)) m (rw (stations-are R) k) l }
 
       module _ (l : t ≤ horizon) {now : ℕ} (i : now ≡ loadAt 8 16 xs) where
-        pub time-early : t < now → Judges (Post s t kind value) (refused 12) xs
+        pub time-early : t < now → JudgesCall (Post s t kind value) (refused 12) xs
         time-early w =
             record { says = λ p e R. post-12 p e s t kind value (omega (arith, stations-are R)) m (rw (stations-are R) k) l (omega (arith, i, R .now)) }
 
         module _ (w : now ≤ t) {number : ℕ} (j : number ≡ loadAt 8 24 xs) where
-          pub number-over : 4294967295 < number → Judges (Post s t kind value) (refused 16) xs
+          pub number-over : 4294967295 < number → JudgesCall (Post s t kind value) (refused 16) xs
           number-over z =
               record {
                 says = λ p e R.
@@ -64,7 +64,7 @@ module _ {xs : List ℕ} {n c : ℕ} (S : n ≡ atMost 256 (loadAt 8 0 xs)) (K :
               }
 
           module _ (z : number ≤ 4294967295) where
-            pub none-free : Full n c xs true → Judges (Post s t kind value) (refused 17) xs
+            pub none-free : Full n c xs true → JudgesCall (Post s t kind value) (refused 17) xs
             none-free f =
                 record {
                   says = λ p e R.

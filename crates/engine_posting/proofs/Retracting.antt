@@ -29,7 +29,7 @@ use Rattle.engine_moves.proofs.Cells.Split.{held-in}
 use Rattle.engine_rollback.specs.BetweenSteps.{Mid, RollsTo}
 use Rattle.engine_rollback.specs.Promises.{Removes}
 use Rattle.engine_promises.specs.Represents.{Represents}
-use Rattle.engine_promises.specs.Steps.{atMost, Judges, Numbered}
+use Rattle.engine_promises.specs.Steps.{atMost, JudgesCall, Numbered}
 use Rattle.engine_posting.specs.declared.RetractJudged.{RetractJudged}
 use Rattle.engine_posting.specs.declared.RetractJudged.the-variants as J
 use Rattle.engine_posting.specs.Steps.{FindsPost, retractVerdict, JudgesRetract}
@@ -124,7 +124,7 @@ module _ {p : Plan} {e : Engine} {xs : List ℕ} (R : Represents p e xs) (number
 
 -- ---- judging
 
-pub retract-refused : {number : ℕ} {xs : List ℕ} (r : Refusal) → Judges (Retract number) (refused (numberOf r)) xs → JudgesRetract number xs (J.Refused r)
+pub retract-refused : {number : ℕ} {xs : List ℕ} (r : Refusal) → JudgesCall (Retract number) (refused (numberOf r)) xs → JudgesRetract number xs (J.Refused r)
 retract-refused r f = record {
   number-is = f;
   numbers = λ n c x q. let z : _≡_ {A = ℕ} 0 1 = cc in absurd (omega arith);
@@ -135,7 +135,7 @@ module _ {xs : List ℕ} {n c number x : ℕ} (k : n ≡ atMost 256 (loadAt 8 0 
   finds : {p : Plan} {e : Engine} → Represents p e xs → FindsPost (p .count) (e .capacity) number xs x
   finds R = let w = fits-read R k m in rw (w .0, w .1) f
 
-  pub unknown-post : x ≡ 0 → Judges (Retract number) (refused 13) xs
+  pub unknown-post : x ≡ 0 → JudgesCall (Retract number) (refused 13) xs
   unknown-post z = record { says = λ p e R. none-refused R number (finds R .none p (e .now) (e .queue) (R .cells) (R .holds) z) }
 
   pub known-post : x ≢ 0 → JudgesRetract number xs (J.Accepts n c x)

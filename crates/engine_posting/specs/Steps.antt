@@ -24,7 +24,7 @@ use Rattle.engine_index.specs.Represents.{Cell, cell}
 use Rattle.engine_events.specs.Represents.{Has, Holds}
 use Rattle.engine_promises.specs.Represents.{Represents}
 use Rattle.engine_promises.specs.Promises.{Becomes}
-use Rattle.engine_promises.specs.Steps.{Judges, Numbered}
+use Rattle.engine_promises.specs.Steps.{JudgesCall, Numbered}
 use Rattle.engine_posting.specs.declared.PostJudged.{PostJudged}
 use Rattle.engine_posting.specs.declared.PostJudged.the-variants as P
 use Rattle.engine_posting.specs.declared.RetractJudged.{RetractJudged}
@@ -58,7 +58,7 @@ pub record PostIs (p : Plan) (e : Engine) (n c s t kind value : ℕ) (x : Event)
   pub is : x ≡ postOf (e .next) s t matter
 
 pub record JudgesPost (s t kind value : ℕ) (xs : List ℕ) (r : PostJudged) : Type 0 where
-  pub number : Judges (Post s t kind value) (postVerdict r) xs
+  pub number : JudgesCall (Post s t kind value) (postVerdict r) xs
   pub event : (n c : ℕ) (x : Event) → r ≡ P.Accepts n c x → (p : Plan) (e : Engine) → Represents p e xs → PostIs p e n c s t kind value x
 
 -- the event of an accepted post is added
@@ -72,6 +72,6 @@ retractVerdict (R.Accepts n c x) = accepted
 retractVerdict (R.Refused r) = refused (numberOf r)
 
 pub record JudgesRetract (number : ℕ) (xs : List ℕ) (r : RetractJudged) : Type 0 where
-  pub number-is : Judges (Retract number) (retractVerdict r) xs
+  pub number-is : JudgesCall (Retract number) (retractVerdict r) xs
   pub numbers : (n c x : ℕ) → r ≡ R.Accepts n c x → Numbered n c xs
   pub post : (n c x : ℕ) → r ≡ R.Accepts n c x → (x ≢ 0) × FindsPost n c number xs x

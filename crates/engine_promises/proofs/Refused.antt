@@ -9,15 +9,15 @@ use Rattle.rules.specs.Checks.{checks}
 use Rattle.rules.specs.Calls.{refuse}
 use Rattle.engine_promises.specs.Represents.{Represents}
 use Rattle.engine_promises.specs.Promises.{Becomes, Answered}
-use Rattle.engine_promises.specs.Steps.{Judges}
+use Rattle.engine_promises.specs.Steps.{JudgesCall}
 
 module _ {xs : List ℕ} (call : Call) where
   pub refused-so : {p : Plan} {e : Engine} (k : ℕ) → Represents p e xs → judged (checks p e call) ≡ refused k → Becomes p e call (Refused k) xs
   refused-so {p} {e} k R j = record { after = e; answers = refuse j; represents = R }
 
-  pub refusing : (k : ℕ) → Judges call (refused k) xs → Answered call (Refused k) xs xs
+  pub refusing : (k : ℕ) → JudgesCall call (refused k) xs → Answered call (Refused k) xs xs
   refusing k f = record { refusal = λ n q. refl; answer = λ p e R. refused-so k R (f .says p e R) }
 
   -- as a judging has found it
-  pub judged-refused : {v : Verdict} (k : ℕ) → Judges call v xs → v ≡ refused k → Answered call (Refused k) xs xs
+  pub judged-refused : {v : Verdict} (k : ℕ) → JudgesCall call v xs → v ≡ refused k → Answered call (Refused k) xs xs
   judged-refused k J q = refusing k (record { says = λ p e R. J .says p e R ∙ q })

@@ -9,7 +9,7 @@ use Rattle.refusal.specs.Tests.{Verdict}
 use Rattle.rules.specs.Engine.{Call, Answer}
 use Rattle.engine_events.specs.Represents.{fitsIn}
 use Rattle.engine_promises.specs.Promises.{Answered}
-use Rattle.engine_promises.specs.Steps.{atMost, Judges}
+use Rattle.engine_promises.specs.Steps.{atMost, JudgesCall}
 use Rattle.engine_promises.proofs.Header.{unfit}
 
 pub unfit-call : {asked : Call} {said : Answer} {xs : List ℕ} {n c : ℕ} {r : Bool} → n ≡ atMost 256 (loadAt 8 0 xs) → c ≡ atMost 4096 (loadAt 8 8 xs)
@@ -18,5 +18,5 @@ unfit-call k m f z = record { refusal = λ i q. refl; answer = λ p e R. absurd 
 
 -- so a judging may say any number there
 pub unfit-judged : {call : Call} {v : Verdict} {xs : List ℕ} {n c : ℕ} {r : Bool} → n ≡ atMost 256 (loadAt 8 0 xs) → c ≡ atMost 4096 (loadAt 8 8 xs)
-    → r ≡ fitsIn n c (length xs) → r ≡ false → Judges call v xs
+    → r ≡ fitsIn n c (length xs) → r ≡ false → JudgesCall call v xs
 unfit-judged k m f z = record { says = λ p e R. absurd (unfit k m f z R) }

@@ -1,8 +1,11 @@
 -- The paper's number and values of each answer (document 01, "Engine calls").
 use Prim.Native.Nat.{ℕ}
-use mathlib.Core.List.{List}
-use Rattle.refusal.specs.Numbers.{numberOf}
+use mathlib.Core.List.{List, []}
+use Rattle.refusal.specs.Numbers.{numberOf, stationsOf}
+use Rattle.refusal.specs.Tests.{Verdict, accepted, refused}
 use Rattle.rules.specs.Engine.{Answer, Refused, Posted, Retracted, Ran, Committed, Recorded}
+use Rattle.engine_answers.specs.declared.OpenAnswer.{OpenAnswer}
+use Rattle.engine_answers.specs.declared.OpenAnswer.the-variants as O
 use Rattle.engine_answers.specs.declared.PostAnswer.{PostAnswer}
 use Rattle.engine_answers.specs.declared.PostAnswer.the-variants as P
 use Rattle.engine_answers.specs.declared.RetractAnswer.{RetractAnswer}
@@ -13,6 +16,15 @@ use Rattle.engine_answers.specs.declared.CommitAnswer.{CommitAnswer}
 use Rattle.engine_answers.specs.declared.CommitAnswer.the-variants as C
 use Rattle.engine_answers.specs.declared.RecordAnswer.{RecordAnswer}
 use Rattle.engine_answers.specs.declared.RecordAnswer.the-variants as D
+
+-- an opening: accepted, or its number; the station with it
+abbrev pub openSays : OpenAnswer → Verdict
+openSays O.Done = accepted
+openSays (O.Refused e) = refused (numberOf e)
+
+abbrev pub openStation : OpenAnswer → List ℕ
+openStation O.Done = []
+openStation (O.Refused e) = stationsOf e
 
 -- "Post .. answers its number", and how many events are undone
 abbrev pub postSaid : PostAnswer → Answer

@@ -1,33 +1,41 @@
 -- What each call promises, on any bytes and on those that stand for an engine.
 use mathlib.Core.Path.{_≡_}
-use mathlib.Core.Bool.{cond}
-use mathlib.Core.List.{List}
+use mathlib.Core.List.{List, [], _∷_, _++_}
 use Prim.Native.Nat.{ℕ}
 use lib.ListN.{length}
 use Rattle.refusal.specs.declared.Refusal.{Refusal}
 use Rattle.refusal.specs.declared.Refusal.the-variants.{Width, Space}
-use Rattle.refusal.specs.Tests.{widthOut, engineSpaceOut}
+use Rattle.refusal.specs.Numbers.{stationsOf}
+use Rattle.refusal.specs.Tests.{widthOut, engineSpaceOut, judged}
+use Rattle.refusal.specs.Cases.{Case, gives, firstOf, checksOf}
 use Rattle.line.specs.Station.{Plan}
 use Rattle.rules.specs.Engine.{Engine, opened, Call, Answer, Refused}
 use Rattle.rules.specs.Calls.{Answers}
-use Rattle.plan_format.specs.declared.ReadAnswer.{ReadAnswer}
-use Rattle.plan_format.specs.declared.ReadAnswer.the-variants.{Stations, Refused as Unread}
-use Rattle.plan_format.specs.Reading.{judging}
+use Rattle.plan_format.specs.Plan.{count}
+use Rattle.plan_format.specs.Reading.{planCases}
+use Rattle.calendar.specs.Bytes.{stateOf}
+use Rattle.engine_events.specs.Represents.{part}
 use Rattle.engine_answers.specs.declared.OpenAnswer.{OpenAnswer}
 use Rattle.engine_answers.specs.declared.OpenAnswer.the-variants.{Done, Refused as Unopened}
 use Rattle.engine_promises.specs.Represents.{lineOf, Represents}
+use Rattle.engine_promises.specs.Answers.{openSays, openStation}
 
--- ---- open: 1 to 5 of the plan, then 6, then 7
+-- ---- open
 
-abbrev pub opening : ReadAnswer → ℕ → ℕ → ℕ → OpenAnswer
-opening (Unread e) width capacity bytes = Unopened e
-opening (Stations n) width capacity bytes = cond (widthOut width) (Unopened Width) (cond (engineSpaceOut n capacity bytes) (Unopened Space) Done)
+-- the opening gives 1 to 5 of the plan, then 6, then 7
+abbrev pub openCases : List ℕ → ℕ → ℕ → ℕ → List Case
+openCases plan width capacity bytes =
+    planCases plan ++ (gives Width (widthOut width) ∷ gives Space (engineSpaceOut (count plan) capacity bytes) ∷ [])
 
 -- of the plan's bytes, the buffer xs at entry, the answer r and the buffer ys at exit. "An opening doesn't depend on what its buffer held before"
 pub record Opens (plan : List ℕ) (width capacity : ℕ) (xs : List ℕ) (r : OpenAnswer) (ys : List ℕ) : Type 0 where
-  pub answer : r ≡ opening (judging plan) width capacity (length xs)
+  pub answer : r ≡ firstOf Unopened (openCases plan width capacity (length xs)) Done
+  pub number : openSays r ≡ judged (checksOf (openCases plan width capacity (length xs)))
+  pub station : openStation r ≡ firstOf stationsOf (openCases plan width capacity (length xs)) []
   pub refusal : (e : Refusal) → r ≡ Unopened e → ys ≡ xs
   pub opens : r ≡ Done → Represents (lineOf plan) (opened (lineOf plan) capacity) ys
+  -- its calendar has that leaf width
+  pub width-is : r ≡ Done → stateOf (part (count plan) capacity ys) .width ≡ width
 
 -- ---- the calls after it
 

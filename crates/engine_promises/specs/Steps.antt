@@ -23,7 +23,7 @@ atMost m w = cond (ltb m w) (suc m) w
 -- ---- judging
 
 -- a call is judged by reading alone: v is the number that refuses it, or accepted, at the engine that the bytes stand for
-pub record Judges (call : Call) (v : Verdict) (xs : List ℕ) : Type 0 where
+pub record JudgesCall (call : Call) (v : Verdict) (xs : List ℕ) : Type 0 where
   pub says : (p : Plan) (e : Engine) → Represents p e xs → judged (checks p e call) ≡ v
 
 -- n and c are the line's numbers of stations and slots

@@ -36,7 +36,7 @@ use Rattle.engine_answers.specs.declared.RunAnswer.the-variants as N
 use Rattle.engine_promises.specs.Represents.{Represents}
 use Rattle.engine_promises.specs.Answers.{runSaid}
 use Rattle.engine_promises.specs.Promises.{Answered}
-use Rattle.engine_promises.specs.Steps.{atMost, Judges, HasRoom}
+use Rattle.engine_promises.specs.Steps.{atMost, JudgesCall, HasRoom}
 use Rattle.engine_running.specs.declared.RunJudged.{RunJudged}
 use Rattle.engine_running.specs.declared.RunJudged.the-variants as J
 use Rattle.engine_running.specs.declared.LowestJudged.{LowestJudged}
@@ -157,7 +157,7 @@ station-run S K A = record { refusal = A .refusal; answer = λ p e R. A .answer 
 
 -- ---- run lowest
 
-pub lowest-refused : {xs : List ℕ} (r : Refusal) → Judges RunLowest (refused (numberOf r)) xs → JudgesLowest xs (L.Refused r)
+pub lowest-refused : {xs : List ℕ} (r : Refusal) → JudgesCall RunLowest (refused (numberOf r)) xs → JudgesLowest xs (L.Refused r)
 lowest-refused r f = record {
   number = f;
   numbers = λ n c s q. let z : _≡_ {A = ℕ} 0 1 = cc in absurd (omega arith);
@@ -171,11 +171,11 @@ module _ {n c : ℕ} {xs : List ℕ} (S : n ≡ atMost 256 (loadAt 8 0 xs)) (K :
       let b = fits-read R S K .1 in
       rw (a, b) F
 
-  pub none-lowest : {e : Refusal} → r ≡ NoLeast e → Judges RunLowest (refused 14) xs
+  pub none-lowest : {e : Refusal} → r ≡ NoLeast e → JudgesCall RunLowest (refused 14) xs
   none-lowest {e = y} z = record { says = λ p e R. lowest-14 p e (finds R .none p (e .now) (e .queue) (R .cells) (R .holds) y z) }
 
   -- the calendar's station is one of the line
-  pub far-lowest : {s t : ℕ} {v : Verdict} → r ≡ At s t → 65535 < s → Judges RunLowest v xs
+  pub far-lowest : {s t : ℕ} {v : Verdict} → r ≡ At s t → 65535 < s → JudgesCall RunLowest v xs
   far-lowest {s} {t} z h = record {
     says = λ p e R.
         let most = R .holds .stores .stands .stations in

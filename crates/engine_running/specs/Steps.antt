@@ -25,7 +25,7 @@ use Rattle.engine_answers.specs.declared.RunAnswer.the-variants as A
 use Rattle.engine_promises.specs.Represents.{Represents}
 use Rattle.engine_promises.specs.Answers.{runSaid}
 use Rattle.engine_promises.specs.Promises.{Becomes}
-use Rattle.engine_promises.specs.Steps.{Judges, Numbered, HasRoom}
+use Rattle.engine_promises.specs.Steps.{JudgesCall, Numbered, HasRoom}
 use Rattle.engine_running.specs.declared.RunJudged.{RunJudged}
 use Rattle.engine_running.specs.declared.RunJudged.the-variants as J
 use Rattle.engine_running.specs.declared.LowestJudged.{LowestJudged}
@@ -75,6 +75,6 @@ lowestVerdict (L.Accepts n c s) = accepted
 lowestVerdict (L.Refused r) = refused (numberOf r)
 
 pub record JudgesLowest (xs : List ℕ) (r : LowestJudged) : Type 0 where
-  pub number : Judges RunLowest (lowestVerdict r) xs
+  pub number : JudgesCall RunLowest (lowestVerdict r) xs
   pub numbers : (n c s : ℕ) → r ≡ L.Accepts n c s → Numbered n c xs
   pub lowest : (n c s : ℕ) → r ≡ L.Accepts n c s → (p : Plan) (e : Engine) → Represents p e xs → Lowest (e .queue .held) s

@@ -17,13 +17,20 @@ largest = 4294967295
 abbrev pub widthOut : ℕ → Bool
 widthOut w = ltb w 1 || ltb 1048576 w
 
+-- the bytes that a calendar of n stations needs, and an engine of n stations and so many events
+abbrev pub calendarBytes : ℕ → ℕ
+calendarBytes n = 32768 + 64 * n
+
+abbrev pub engineBytes : ℕ → ℕ → ℕ
+engineBytes n capacity = 32768 + 256 * n + 256 * capacity
+
 -- 7: N is out of range for the calendar, or its buffer of the given length is too short
 abbrev pub calendarSpaceOut : ℕ → ℕ → Bool
-calendarSpaceOut n bytes = ltb n 1 || (ltb 256 n || ltb bytes (32768 + 64 * n))
+calendarSpaceOut n bytes = ltb n 1 || (ltb 256 n || ltb bytes (calendarBytes n))
 
 -- 7: the capacity is out of range, 2 to 4096, or the engine's buffer of the given length is too short
 abbrev pub engineSpaceOut : ℕ → ℕ → ℕ → Bool
-engineSpaceOut n capacity bytes = ltb capacity 2 || (ltb 4096 capacity || ltb bytes (32768 + 256 * n + 256 * capacity))
+engineSpaceOut n capacity bytes = ltb capacity 2 || (ltb 4096 capacity || ltb bytes (engineBytes n capacity))
 
 -- 9: the station is N or more
 abbrev pub stationOut : ℕ → ℕ → Bool

@@ -32,7 +32,8 @@ use Rattle.engine_index.proofs.Rings.RingSearches as search
 use Rattle.engine_index.proofs.Rings.RingSearches.{First, first, waits}
 use Rattle.engine_index.proofs.Changes.ToRules as rules
 use Rattle.engine_index.proofs.Changes.ToRules.{least-some, least-none}
-use Rattle.engine_events.specs.Represents.{calendarAt, calendarBytes, part, heldOf, Calendared, Untold}
+use Rattle.engine_events.specs.Represents.{calendarAt, part, heldOf, Calendared, Untold}
+use Rattle.refusal.specs.Tests.{calendarBytes}
 use Rattle.engine_moves.specs.Steps.{Tells}
 use Rattle.engine_events.proofs.CalendarPart.{Put, part-put}
 use Rattle.engine_events.proofs.StationsKept.{stores-kept}

@@ -20,7 +20,8 @@ use Rattle.engine_events.proofs.CalendarShown.{opened-shows}
 use Rattle.engine_index.specs.Layout.{indexBytes}
 use Rattle.engine_index.specs.Opening as index
 use Rattle.engine_index.specs.Opening.{places}
-use Rattle.engine_events.specs.Represents.{fitsIn, calendarAt, calendarBytes, part}
+use Rattle.engine_events.specs.Represents.{fitsIn, calendarAt, part}
+use Rattle.refusal.specs.Tests.{calendarBytes}
 use Rattle.engine_events.specs.Promises.{AfterHeader}
 use Rattle.engine_moves.specs.Promises.{ClearsEvents}
 use Rattle.engine_events.proofs.CalendarPart.{Put, part-put, part-kept}

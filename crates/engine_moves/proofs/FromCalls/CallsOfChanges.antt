@@ -9,7 +9,8 @@ use Rattle.words.specs.Le.{loadAt}
 use Rattle.rings.specs.Table.{Frame}
 use Rattle.engine_rows.specs.Layout.{slotRow}
 use Rattle.engine_index.specs.Layout.{indexBytes}
-use Rattle.engine_events.specs.Represents.{fitsIn, calendarAt, calendarBytes}
+use Rattle.engine_events.specs.Represents.{fitsIn, calendarAt}
+use Rattle.refusal.specs.Tests.{calendarBytes}
 use Rattle.engine_moves.specs.Steps.{Tells}
 use Rattle.engine_events.proofs.Fitting.{fits-true}
 
