@@ -1,3 +1,4 @@
 pub mod ReadWritten
 pub mod WrittenRead
 pub mod WriteRead
+pub mod Inverse

@@ -4,7 +4,7 @@ use native.Mathlib.Nat.{zero-add, add-zero, suc-add, add-suc, not-suc-le-zero}
 use native.Mathlib.Omega.{arith}
 use mathlib.Core.Path.{_≡_, refl, sym, _∙_, ap}
 use mathlib.Core.Bool.{false}
-use mathlib.Core.List.{List, [], _∷_, _++_, append-assoc, map}
+use mathlib.Core.List.{List, [], _∷_, _++_, append-assoc}
 use lib.Dec.{lit<}
 use lib.ListN.{length, getD, take, drop, replicate, length-append, length-drop}
 use lib.Seq.{drop-drop, drop-at, take-at, length-take-le}
@@ -12,35 +12,29 @@ use Rattle.words.proofs.Laws.{length-bytes}
 use Rattle.words.proofs.Bytes.{load-found}
 use Rattle.plan_format.specs.declared.Station.{Station}
 use Rattle.plan_format.specs.declared.ReadAnswer.the-variants.{Stations}
-use Rattle.plan_format.specs.Plan.{count, offsetOf, lengthOf, begins, configAt, stationAt, stationsFrom, nameOut}
+use Rattle.plan_format.specs.Plan.{count, offsetOf, lengthOf, begins, configAt, padded, stationAt, nameOut}
 use Rattle.plan_format.specs.Reading.{judging}
-use Rattle.plan_format.specs.Writing.{sizeOf, recordBytes, pairsOf, recordsOf, planOf, noStation, fieldOut, wordOut, cleared}
+use Rattle.plan_format.specs.Typed.{Sized, AreSized}
+use Rattle.plan_format.specs.Writing.{sizeOf, recordBytes, pairsOf, recordsOf, planOf, noStation, fieldOut, wordOut}
 use Rattle.plan_format.proofs.Names.{name-short}
 use Rattle.plan_format.proofs.Accepted.{accepts}
 use Rattle.plan_format.proofs.Pairs.{PairRight}
 
 -- ---- what can be written
 
--- each number fits its bytes, and the name has its 16
-pub record Sized (s : Station) : Type 0 where
-  pub parent : s .config .parent < 65536
-  pub calm : s .config .calm < 4294967296
-  pub spring : s .config .spring < 4294967296
-  pub threshold : s .config .threshold < 4294967296
-  pub hop : s .config .hop < 4294967296
-  pub noise : s .config .noise < 4294967296
-  pub seed : s .config .seed < 4294967296
-  pub name : length (s .name) ≡ 16
-
 -- stations that can be written as a plan
 pub record Writable (ss : List Station) : Type 0 where
   pub some : 1 ≤ length ss
   pub most : length ss ≤ 256
-  pub sized : (k : ℕ) → k < length ss → Sized (getD ss k noStation)
+  pub sized : AreSized ss
   pub numbers : (k : ℕ) → k < length ss → fieldOut ss k ≡ false
   pub names : (k : ℕ) → k < length ss → wordOut ss k ≡ false
 
 -- ---- the name
+
+-- the record with zeros after its name
+unfoldable pub cleared : Station → Station
+cleared s = record { config = s .config; name = padded (take (s .len) (s .name)); len = s .len }
 
 module _ (s : Station) (z : Sized s) (short : s .len ≤ 16) where
   name-length : length (take (s .len) (s .name)) ≡ s .len
@@ -117,11 +111,6 @@ all-read p k at (s ∷ ss) rest f b m t d e =
       i,
     )
 
-stations-read : (p : List ℕ) (k : ℕ) (ss : List Station) → AllRead p k ss → stationsFrom p k (length ss) ≡ map cleared ss
-unfolding stationsFrom
-stations-read p k [] a = refl
-stations-read p k (s ∷ ss) a = λ i. a .0 .station i ∷ stations-read p (suc k) ss (a .1) i
-
 read-at : (p : List ℕ) (k : ℕ) (ss : List Station) → AllRead p k ss → (j : ℕ) → j < length ss → ReadAt p (k + j) (getD ss j noStation)
 read-at p k [] a j h = absurd (not-suc-le-zero h)
 read-at p k (s ∷ ss) a zero h = rw add-zero (a .0)
@@ -180,5 +169,5 @@ module _ (ss : List Station) (w : Writable ss) where
       })
 
   -- and its stations are those that were written
-  pub written-read : stationsFrom (planOf ss) 0 (length ss) ≡ map cleared ss
-  written-read = stations-read (planOf ss) 0 ss plan-read
+  pub written-read : (k : ℕ) → k < length ss → stationAt (planOf ss) k ≡ cleared (getD ss k noStation)
+  written-read k h = at-station k h .station

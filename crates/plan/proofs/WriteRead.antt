@@ -3,16 +3,25 @@ use Prim.Native.Nat.{ℕ, zero, suc, _+_, _-_, _*_, _≤_, _<_}
 use native.Mathlib.Nat.{zero-add}
 use native.Mathlib.Omega.{arith}
 use mathlib.Core.Path.{_≡_, refl, sym, _∙_, ap}
+use native.Mathlib.Decide.{decLt}
+use mathlib.Core.Bool.{false}
 use mathlib.Core.List.{List, _++_, append-assoc}
-use lib.ListN.{length, getD, take, drop, replicate, length-drop, take-append-drop}
+use borrow.Author.Tests.{le-ltb}
+use lib.Dec.{lit<}
+use lib.ListN.{length, getD, take, drop, replicate, length-append, length-drop, take-append-drop, List·getD-eq-default}
 use lib.Seq.{drop-drop, drop-length, take-at, length-take-le}
 use Rattle.words.specs.Le.{loadAt, bytesOf}
 use Rattle.words.proofs.Bytes.{bytes-load}
+use Rattle.line.specs.Station.{numberOut}
+use Rattle.plan_format.specs.declared.Station.{Station}
 use Rattle.plan_format.specs.declared.ReadAnswer.the-variants.{Stations}
-use Rattle.plan_format.specs.Plan.{offsetOf, lengthOf, begins, configAt, padded, stationAt, stationsFrom}
-use Rattle.plan_format.specs.Reading.{judging}
-use Rattle.plan_format.specs.Writing.{recordBytes, pairsOf, recordsOf, planOf}
-use Rattle.plan_format.proofs.Stations.{length-from}
+use Rattle.plan_format.specs.declared.WriteAnswer.the-variants.{Length}
+use Rattle.plan_format.specs.Plan.{offsetOf, lengthOf, begins, configAt, padded, stationAt, stationsFrom, nameOut}
+use Rattle.plan_format.specs.Typed.{AreBytes}
+use Rattle.plan_format.specs.Reading.{any, judging}
+use Rattle.plan_format.specs.Writing.{recordBytes, pairsOf, recordsOf, planOf, noStation, fieldOut, wordOut, writing}
+use Rattle.plan_format.proofs.Lows.{any-all}
+use Rattle.plan_format.proofs.Stations.{length-from, first-at}
 use Rattle.plan_format.proofs.Accepted.{Accepted, accepted, begins-first, pairs-within}
 use Rattle.plan_format.proofs.Pairs.{PairRight}
 
@@ -77,5 +86,39 @@ module _ (p : List ℕ) (bytes : (i : ℕ) → getD p i 0 < 256) where
         (rw (ap (λ (m : ℕ). pairsOf m (stationsFrom p 0 n) ++ drop (2 + 8 * n) p) (sym b) ∙ pairs-written 0 n (zero-add n), a .counted)
         (bytes-load 2 0 2 p bytes refl (omega arith)))
 
-pub read-written : (p : List ℕ) (n : ℕ) → judging p ≡ Stations n → ((i : ℕ) → getD p i 0 < 256) → planOf (stationsFrom p 0 n) ≡ p
-read-written p n e bytes = plan-written p bytes n (accepted p n e)
+-- a byte past the end of a list counts as 0
+past-end : (p : List ℕ) → AreBytes p → (i : ℕ) → getD p i 0 < 256
+past-end p bytes i = elim (decLt i (length p)) [ yes l ↦ bytes i l | no l ↦ rw (List·getD-eq-default p 0 {n = i} (omega arith)) (lit< tt) ]
+
+pub read-written : (p : List ℕ) (n : ℕ) → judging p ≡ Stations n → AreBytes p → planOf (stationsFrom p 0 n) ≡ p
+read-written p n e bytes = plan-written p (past-end p bytes) n (accepted p n e)
+
+-- ---- and the writer accepts it
+
+-- writing what was read into the front of a list, whatever stands after it: accepted, with the plan's bytes
+pub read-then-write : (p : List ℕ) (n room : ℕ) (more : List Station) → judging p ≡ Stations n → AreBytes p → length p ≤ room
+    → (writing n (stationsFrom p 0 n ++ more) room ≡ Length (length p)) × (planOf (take n (stationsFrom p 0 n ++ more)) ≡ p)
+unfolding writing
+read-then-write p n room more e bytes r =
+    (rw (le-ltb n 1 (a .some), le-ltb 256 n (a .most), le-ltb (length ss) n long, fields, names, same, le-ltb room (length p) r), same)
+  where
+    a : Accepted p n
+    a = accepted p n e
+
+    ss : List Station
+    ss = stationsFrom p 0 n ++ more
+
+    long : n ≤ length ss
+    long = rw (length-append, length-from) (omega arith)
+
+    same : planOf (take n ss) ≡ p
+    same = ap planOf (take-at (stationsFrom p 0 n) more n (length-from p 0 n)) ∙ read-written p n e bytes
+
+    at : (k : ℕ) → k < n → getD ss k noStation ≡ stationAt p k
+    at k h = first-at p n more k h
+
+    fields : any (fieldOut ss) n ≡ false
+    fields = any-all (fieldOut ss) n (λ k h. ap (λ (s : Station). numberOut k (s .config)) (at k h) ∙ a .numbers k h)
+
+    names : any (wordOut ss) n ≡ false
+    names = any-all (wordOut ss) n (λ k h. ap nameOut (at k h) ∙ a .names k h)

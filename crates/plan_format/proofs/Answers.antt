@@ -1,9 +1,11 @@
 -- What the plan's answers say: each by the first of its refusals that holds; and the reader's by the answer that the plan itself has.
-use Prim.Native.Nat.{ℕ}
+use Prim.Native.Nat.{ℕ, _≤_}
+use native.Mathlib.Omega.{arith}
 use mathlib.Core.Path.{_≡_, refl, sym, _∙_}
-use mathlib.Core.Bool.{cond}
+use mathlib.Core.Bool.{Bool, true, false, cond}
 use mathlib.Core.List.{List, [], _∷_}
 use lib.Dec.{ltb}
+use borrow.Author.Tests.{ltb-false, le-ltb}
 use Rattle.refusal.specs.declared.Refusal.the-variants.{Output}
 use Rattle.refusal.specs.Numbers.{stationsOf}
 use Rattle.refusal.specs.Tests.{judged}
@@ -11,9 +13,7 @@ use Rattle.refusal.specs.Cases.{Case, gives, firstOf, checksOf}
 use Rattle.refusal.proofs.CheckingOrder.{first-mapped, first-more, first-judged}
 use Rattle.plan_format.specs.declared.ReadAnswer.{ReadAnswer}
 use Rattle.plan_format.specs.declared.ReadAnswer.the-variants as R
-use Rattle.plan_format.specs.declared.NameAnswer.{NameAnswer}
 use Rattle.plan_format.specs.declared.NameAnswer.the-variants as N
-use Rattle.plan_format.specs.declared.WriteAnswer.{WriteAnswer}
 use Rattle.plan_format.specs.declared.WriteAnswer.the-variants as W
 use Rattle.plan_format.specs.Numbers.{readSays, readStation, nameSays, nameStation, writeSays, writeStation}
 use Rattle.plan_format.specs.Plan.{count}
@@ -51,3 +51,23 @@ unfolding reading judging
 reading-in p room =
     first-more R.Refused (planCases p) (gives Output (ltb room (count p)) ∷ []) (R.Stations (count p))
     ∙ sym (first-mapped (inRoom room) R.Refused (planCases p) (R.Stations (count p)))
+
+-- ---- what an accepted read says
+
+pub record ReadIn (p : List ℕ) (room n : ℕ) : Type 0 where
+  pub judged-so : judging p ≡ R.Stations n
+  pub held : n ≤ room
+
+in-room : (p : List ℕ) (room n : ℕ) (a : ReadAnswer) → judging p ≡ a → inRoom room a ≡ R.Stations n → ReadIn p room n
+in-room p room n (R.Refused r) e h = absurd (let z : _≡_ {A = ℕ} 0 1 = cc in omega arith)
+in-room p room n (R.Stations m) e h = by-test (ltb room m) refl h
+  where
+    by-test : (t : Bool) → ltb room m ≡ t → cond t (R.Refused Output) (R.Stations m) ≡ R.Stations n → ReadIn p room n
+    by-test true t g = absurd (let z : _≡_ {A = ℕ} 0 1 = cc in omega arith)
+    by-test false t g = let q : m ≡ n = cc in record { judged-so = e ∙ g; held = omega (arith, ltb-false room m t) }
+
+pub reading-accepted : (p : List ℕ) (room n : ℕ) → reading p room ≡ R.Stations n → ReadIn p room n
+reading-accepted p room n e = in-room p room n (judging p) refl (sym (reading-in p room) ∙ e)
+
+pub reading-accepts : (p : List ℕ) (room n : ℕ) → judging p ≡ R.Stations n → n ≤ room → reading p room ≡ R.Stations n
+reading-accepts p room n e h = rw (reading-in, e, le-ltb room n h)

@@ -5,4 +5,5 @@ pub mod Stations
 pub mod Answers
 pub mod Accepted
 pub mod Walk
+pub mod Typed
 pub mod Edges

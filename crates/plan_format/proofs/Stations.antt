@@ -1,11 +1,13 @@
 -- The stations of a plan one by one.
 use Prim.Native.Nat.{ℕ, zero, suc, _+_, _<_}
+use native.Mathlib.Nat.{zero-add}
 use native.Mathlib.Omega.{arith}
 use mathlib.Core.Path.{_≡_, refl, ap, _∙_}
 use mathlib.Core.List.{List, [], _∷_, _++_}
-use lib.ListN.{length, getD}
+use lib.ListN.{length, getD, List·getD-append}
 use Rattle.plan_format.specs.declared.Station.{Station}
 use Rattle.plan_format.specs.Plan.{stationAt, stationsFrom}
+use Rattle.plan_format.specs.Writing.{noStation}
 
 -- so many stations are read as were asked for
 pub length-from : (p : List ℕ) (k j : ℕ) → length (stationsFrom p k j) ≡ j
@@ -27,3 +29,8 @@ unfolding stationsFrom
 from-at p k zero i d h = absurd (omega arith)
 from-at p k (suc n) zero d h = let e : k ≡ k + 0 = omega arith in ap (stationAt p) e
 from-at p k (suc n) (suc i) d h = let e : suc k + i ≡ k + suc i = omega arith in from-at p (suc k) n i d (omega arith) ∙ ap (stationAt p) e
+
+-- station k of a list that begins with the first n of a plan
+pub first-at : (p : List ℕ) (n : ℕ) (more : List Station) (k : ℕ) → k < n → getD (stationsFrom p 0 n ++ more) k noStation ≡ stationAt p k
+first-at p n more k h =
+    List·getD-append (stationsFrom p 0 n) more noStation k (rw length-from h) ∙ from-at p 0 n k noStation h ∙ ap (stationAt p) (zero-add k)

@@ -11,7 +11,7 @@ use Rattle.line.specs.Station.{numberOut}
 use Rattle.plan_format.specs.declared.Station.{Station}
 use Rattle.plan_format.specs.declared.WriteAnswer.{WriteAnswer}
 use Rattle.plan_format.specs.declared.WriteAnswer.the-variants.{Length, Refused}
-use Rattle.plan_format.specs.Plan.{padded, nameOut}
+use Rattle.plan_format.specs.Plan.{nameOut}
 use Rattle.plan_format.specs.Reading.{givesLowest}
 
 -- ---- the bytes
@@ -71,9 +71,3 @@ writing n ss room = firstOf Refused (writeCases n ss room) (Length (length (plan
 abbrev pub left : WriteAnswer → List ℕ → List ℕ → List ℕ
 left (Length n) plan out = plan ++ drop n out
 left (Refused r) plan out = out
-
--- ---- equal records
-
--- "two records are equal when their numbers and names are": the record with zeros after its name
-unfoldable pub cleared : Station → Station
-cleared s = record { config = s .config; name = padded (take (s .len) (s .name)); len = s .len }

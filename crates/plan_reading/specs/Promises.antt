@@ -9,6 +9,7 @@ use Rattle.refusal.specs.Cases.{firstOf, checksOf}
 use Rattle.plan_format.specs.declared.Station.{Station}
 use Rattle.plan_format.specs.declared.ReadAnswer.{ReadAnswer}
 use Rattle.plan_format.specs.Plan.{stationsFrom}
+use Rattle.plan_format.specs.Typed.{AreBytes}
 use Rattle.plan_format.specs.Numbers.{readSays, readStation}
 use Rattle.plan_format.specs.Reading.{planCases, judging, readCases, reading, readOf}
 
@@ -24,7 +25,9 @@ pub record JudgesIn (plan : List ℕ) (room : ℕ) (r : ReadAnswer) : Type 0 whe
   pub number : readSays r ≡ judged (checksOf (readCases plan room))
   pub station : readStation r ≡ firstOf stationsOf (readCases plan room) []
 
--- also of the list at entry and at exit. A refusal changes nothing, and what stands after the last record read is unchanged
+-- also of the list at entry and at exit. A refusal changes nothing, and what stands after the last record read is unchanged. `typed`: the plan is a slice of
+-- bytes
 pub record ReadsPlan (plan : List ℕ) (list : List Station) (r : ReadAnswer) (after : List Station) : Type 0 where
   pub judges : JudgesIn plan (length list) r
+  pub typed : AreBytes plan
   pub records : after ≡ stationsFrom plan 0 (readOf r) ++ drop (readOf r) list

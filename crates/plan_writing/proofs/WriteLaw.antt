@@ -1,7 +1,7 @@
 -- The two passes of the writer together: what they answer and leave is what `writing` and `left` say.
 use Prim.Native.Nat.{ℕ, _+_, _*_, _≤_, _<_}
 use native.Mathlib.Omega.{arith}
-use mathlib.Core.Path.{_≡_, refl, sym, ap, subst, _∙_}
+use mathlib.Core.Path.{_≡_, refl, sym, ap, _∙_}
 use mathlib.Core.Bool.{Bool, true, false, cond, _||_}
 use mathlib.Core.List.{List, _++_}
 use lib.Dec.{ltb}
@@ -15,8 +15,9 @@ use Rattle.plan_format.specs.declared.WriteAnswer.the-variants.{Length, Refused
 use Rattle.plan_writing.specs.declared.Pen.{Pen}
 use Rattle.plan_format.specs.Lowest.{lowest}
 use Rattle.plan_format.specs.Reading.{any}
+use Rattle.plan_format.specs.Typed.{AreSized}
 use Rattle.plan_format.specs.Writing.{planOf, writing, left, noStation, fieldOut, wordOut}
-use Rattle.plan_writing.specs.Steps.{Draft, drafted, NameSized, penOf, wanted, answered, writes}
+use Rattle.plan_writing.specs.Steps.{Draft, drafted, penOf, wanted, answered, secondCount}
 use Rattle.line.proofs.Fits.{or-false}
 use Rattle.plan_format.proofs.Lows.{lowest-full, lowest-none}
 use Rattle.plan_format.proofs.Names.{name-short}
@@ -27,7 +28,7 @@ use Rattle.plan_writing.proofs.WriteDraft.{drafted-zero}
 use Rattle.plan_writing.proofs.WriteSurvey.{spread, penAt, surveyed}
 use Rattle.plan_writing.proofs.WriteOutput.{plan-length, wrote}
 
-writes-le : (a : WriteAnswer) (n : ℕ) → writes a n ≤ n
+writes-le : (a : WriteAnswer) (n : ℕ) → secondCount a n ≤ n
 writes-le (Length l) n = omega arith
 writes-le (Refused r) n = omega arith
 
@@ -35,7 +36,7 @@ writes-le (Refused r) n = omega arith
 pub record First (n : ℕ) (ss : List Station) (out mid : List ℕ) (p q : Pen) : Type 0 where
   pub start : p ≡ penOf (wanted n (length ss)) false
   pub pass : drafted ss (p .n) (record { pen = p; out = out }) ≡ record { pen = q; out = mid }
-  pub named : NameSized ss (p .n)
+  pub typed : AreSized ss
 
 pub first-held : (n : ℕ) (ss : List Station) {p : Pen} → p ≡ penOf (wanted n (length ss)) false → p .n ≤ length ss
 first-held n ss e = rw e (wanted-fits n (length ss) .1)
@@ -53,13 +54,10 @@ module _ {n : ℕ} {ss : List Station} {out mid : List ℕ} {p q : Pen} (f : Fir
   out-found : mid ≡ out
   out-found = ap (λ (d : Draft). d .out) found
 
-  names : NameSized ss m
-  names = subst (NameSized ss) (ap (λ (u : Pen). u .n) (f .start)) (f .named)
-
   pub first-most : q .n ≤ 256
   first-most = rw pen-found (wanted-fits n (length ss) .0)
 
-  pub second-held : (a : WriteAnswer) {w : Pen} → w ≡ penOf (writes a (q .n)) true → w .n ≤ length ss
+  pub second-held : (a : WriteAnswer) {w : Pen} → w ≡ penOf (secondCount a (q .n)) true → w .n ≤ length ss
   second-held a e = let h = writes-le a (q .n) in let k : q .n ≤ length ss = rw pen-found (wanted-fits n (length ss) .1) in rw e (omega arith)
 
 -- ---- the answer
@@ -92,7 +90,7 @@ module _ (n : ℕ) (ss : List Station) (room : ℕ) where
   abbrev ending : ℕ → WriteAnswer
   ending l = cond (ltb room l) (Refused Output) (Length l)
 
-  module _ (fit : Fit n ss) (names : NameSized ss n) where
+  module _ (fit : Fit n ss) (sized : AreSized ss) where
     short : n ≤ lowest (wordOut ss) n → (i : ℕ) → i < n → getD ss i noStation .len ≤ 16
     short h i l = name-short (getD ss i noStation) (lowest-none (wordOut ss) n i (lowest-full (wordOut ss) n h) l)
 
@@ -112,7 +110,7 @@ module _ (n : ℕ) (ss : List Station) (room : ℕ) where
         go : (u : Bool) → ltb (lowest (wordOut ss) n) n ≡ u
             → cond u name (ending (2 + 8 * n + spread ss n)) ≡ cond u name (ending (length plan))
         go true q = refl
-        go false q = ap ending (sym (plan-length ss n (fit .held) (short (ltb-false (lowest (wordOut ss) n) n q)) names))
+        go false q = ap ending (sym (plan-length ss n (fit .held) (short (ltb-false (lowest (wordOut ss) n) n q)) sized))
 
   shapeless : Wrong n ss ≡ true → writing n ss room ≡ Refused Shape
   unfolding writing
@@ -139,7 +137,7 @@ module _ (n : ℕ) (ss : List Station) (room : ℕ) where
 
 -- ---- both passes
 
-module _ {n : ℕ} {ss : List Station} {out mid last : List ℕ} {p q w r : Pen} {a : WriteAnswer} (f : First n ss out mid p q) (answers : a ≡ answered q (length out)) (again : w ≡ penOf (writes a (q .n)) true)
+module _ {n : ℕ} {ss : List Station} {out mid last : List ℕ} {p q w r : Pen} {a : WriteAnswer} (f : First n ss out mid p q) (answers : a ≡ answered q (length out)) (again : w ≡ penOf (secondCount a (q .n)) true)
     (pass : drafted ss (w .n) (record { pen = w; out = mid }) ≡ record { pen = r; out = last }) where
   answer-is : a ≡ writing n ss (length out)
   unfolding answered
@@ -151,15 +149,15 @@ module _ {n : ℕ} {ss : List Station} {out mid last : List ℕ} {p q w r : Pen}
           ap (λ (i : ℕ). answered (penAt ss i false i) (length out)) z ∙ sym (shapeless n ss (length out) e)
       go false e =
           let z : m f ≡ n = ap (λ (t : Bool). cond t 0 n) e in
-          ap (λ (i : ℕ). answered (penAt ss i false i) (length out)) z ∙ judged n ss (length out) (fit-of n ss e) (subst (NameSized ss) z (names f)) e
+          ap (λ (i : ℕ). answered (penAt ss i false i) (length out)) z ∙ judged n ss (length out) (fit-of n ss e) (f .typed) e
 
   -- the second pass over as many stations as the answer says
-  passed : (x : WriteAnswer) → a ≡ x → last ≡ drafted ss (writes x (m f)) (record { pen = penOf (writes x (m f)) true; out = out }) .out
+  passed : (x : WriteAnswer) → a ≡ x → last ≡ drafted ss (secondCount x (m f)) (record { pen = penOf (secondCount x (m f)) true; out = out }) .out
   passed x e =
-      let u : w ≡ penOf (writes x (m f)) true = again ∙ ap (λ (c : WriteAnswer). penOf (writes c (q .n)) true) e ∙ ap (λ (v : Pen). penOf (writes x (v .n)) true) (pen-found f) in
+      let u : w ≡ penOf (secondCount x (m f)) true = again ∙ ap (λ (c : WriteAnswer). penOf (secondCount c (q .n)) true) e ∙ ap (λ (v : Pen). penOf (secondCount x (v .n)) true) (pen-found f) in
       sym (ap (λ (d : Draft). d .out) pass)
       ∙ ap (λ (v : Pen). drafted ss (v .n) (record { pen = v; out = mid }) .out) u
-      ∙ ap (λ (ys : List ℕ). drafted ss (writes x (m f)) (record { pen = penOf (writes x (m f)) true; out = ys }) .out) (out-found f)
+      ∙ ap (λ (ys : List ℕ). drafted ss (secondCount x (m f)) (record { pen = penOf (secondCount x (m f)) true; out = ys }) .out) (out-found f)
 
   left-is : last ≡ left a (planOf (take n ss)) out
   left-is = go a refl
@@ -169,13 +167,12 @@ module _ {n : ℕ} {ss : List Station} {out mid last : List ℕ} {p q w r : Pen}
       go (Length l) e =
           let y = accepted n ss (length out) l (sym answer-is ∙ e) in
           let z : m f ≡ n = wanted-fit (y .fit) in
-          let k = subst (NameSized ss) z (names f) in
-          let s = short n ss (length out) (y .fit) k (y .words) in
-          let h = plan-length ss n (y .fit .held) s k in
+          let s = short n ss (length out) (y .fit) (f .typed) (y .words) in
+          let h = plan-length ss n (y .fit .held) s (f .typed) in
           passed (Length l) e
           ∙ ap (λ (i : ℕ). drafted ss i (record { pen = penOf i true; out = out }) .out) z
-          ∙ wrote ss n (y .fit .held) s k out (y .fit .most) (omega (arith, h, y .fits)) (y .fit .some)
+          ∙ wrote ss n (y .fit .held) s (f .typed) out (y .fit .most) (omega (arith, h, y .fits)) (y .fit .some)
           ∙ ap (λ (i : ℕ). planOf (take n ss) ++ drop i out) (sym (y .size))
 
   pub written : WritesPlan ss n out a last
-  written = writes-as answer-is left-is
+  written = writes-as answer-is (f .typed) left-is

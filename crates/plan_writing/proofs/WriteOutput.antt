@@ -12,8 +12,9 @@ use lib.Seq.{sets, sets-eq, take-at, drop-at, drop-append-add, take-suc, take-ad
 use Rattle.words.specs.Le.{bytesOf}
 use Rattle.words.proofs.Laws.{length-bytes}
 use Rattle.plan_format.specs.declared.Station.{Station}
+use Rattle.plan_format.specs.Typed.{AreSized}
 use Rattle.plan_format.specs.Writing.{noStation, sizeOf, recordBytes, pairsOf, recordsOf, planOf}
-use Rattle.plan_writing.specs.Steps.{Draft, NameSized, headed, placed, roomy, drafted, penOf}
+use Rattle.plan_writing.specs.Steps.{Draft, headed, placed, roomy, drafted, penOf}
 use Rattle.plan_writing.proofs.WriteDraft.{length-drafted}
 use Rattle.plan_writing.proofs.WriteSurvey.{spread, penAt, out-next}
 
@@ -66,7 +67,7 @@ length-record s short name = let e : length (take (s .len) (s .name)) ≡ s .len
 
 -- ---- the plan's length
 
-module _ (ss : List Station) (n : ℕ) (held : n ≤ length ss) (short : (i : ℕ) → i < n → getD ss i noStation .len ≤ 16) (names : NameSized ss n) where
+module _ (ss : List Station) (n : ℕ) (held : n ≤ length ss) (short : (i : ℕ) → i < n → getD ss i noStation .len ≤ 16) (typed : AreSized ss) where
   abbrev station : ℕ → Station
   station k = getD ss k noStation
 
@@ -103,7 +104,7 @@ module _ (ss : List Station) (n : ℕ) (held : n ≤ length ss) (short : (i : �
       let e = length-made k (omega arith) in
       ap length (made-next k (omega arith))
       ∙ length-append (Made k) (recordBytes (station k))
-      ∙ ap₂ (λ (a b : ℕ). a + b) e (length-record (station k) (short k (omega arith)) (names k (omega arith)))
+      ∙ ap₂ (λ (a b : ℕ). a + b) e (length-record (station k) (short k (omega arith)) (typed k (omega (arith, held)) .name))
       ∙ sym (spread-next k (omega arith))
 
   front-next : (k : ℕ) → k < n → Front (suc k) ≡ Front k ++ pairOf (base + spread ss k) (station k)
@@ -213,7 +214,7 @@ module _ (ss : List Station) (n : ℕ) (held : n ≤ length ss) (short : (i : �
             sums a b c d = simp length-append
 
         sized : length part ≡ length rec
-        sized = length-take-le (sizeOf (station k)) (Rest k) (simp length-drop (omega (arith, inside k l))) ∙ sym (length-record (station k) (short k l) (names k l))
+        sized = length-take-le (sizeOf (station k)) (Rest k) (simp length-drop (omega (arith, inside k l))) ∙ sym (length-record (station k) (short k l) (typed k (omega (arith, held)) .name))
 
         after : before ++ (rec ++ Rest (suc k)) ≡ Whole (suc k)
         after = groups (Front k) pair (Gap (suc k)) (Made k) rec (Rest (suc k)) ∙ ap₂ (λ (a b : List ℕ). a ++ (Gap (suc k) ++ (b ++ Rest (suc k)))) (sym (front-next k l)) (sym (made-next k l))

@@ -1,6 +1,5 @@
 -- The writer's pass over a list of stations: what one station does to the pen and to the output.
-use Prim.Native.Nat.{ℕ, zero, suc, _+_, _*_, _<_}
-use mathlib.Core.Path.{_≡_}
+use Prim.Native.Nat.{ℕ, zero, suc, _+_, _*_}
 use mathlib.Core.Bool.{Bool, cond, _&&_}
 use mathlib.Core.List.{List, _++_}
 use lib.Dec.{ltb, leb, eqb}
@@ -78,10 +77,6 @@ unfoldable pub drafted : List Station → ℕ → Draft → Draft
 drafted ss zero d = d
 drafted ss (suc k) d = stepped (getD ss k noStation) (drafted ss k d)
 
--- each of the first k stations has a name of 16 bytes, as the record's type has it
-abbrev pub NameSized : List Station → ℕ → Type 0
-NameSized ss k = (i : ℕ) → i < k → length (getD ss i noStation .name) ≡ 16
-
 -- ---- between the two passes
 
 abbrev pub penOf : ℕ → Bool → Pen
@@ -101,6 +96,6 @@ answered p room =
     (Length (p .at)))))
 
 -- how many stations the second pass writes
-abbrev pub writes : WriteAnswer → ℕ → ℕ
-writes (Length l) n = n
-writes (Refused r) n = 0
+abbrev pub secondCount : WriteAnswer → ℕ → ℕ
+secondCount (Length l) n = n
+secondCount (Refused r) n = 0

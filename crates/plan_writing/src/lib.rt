@@ -9,7 +9,7 @@ ghost use lib.Seq.{sets};
 ghost use Rattle.words.specs.Le.{bytesOf};
 ghost use Rattle.plan_format.specs.Writing.{sizeOf, recordBytes};
 ghost use Rattle.plan_writing.specs.Promises.{WritesPlan};
-ghost use Rattle.plan_writing.specs.Steps.{lower, counted, moved, ready, roomy, headed, placed, stepped, drafted, NameSized, penOf, wanted, answered, writes, headOf, tailOf};
+ghost use Rattle.plan_writing.specs.Steps.{lower, counted, moved, ready, roomy, headed, placed, stepped, drafted, penOf, wanted, answered, secondCount, headOf, tailOf};
 use line::Config;
 use plan_format::Station;
 use plan_format::WriteAnswer;
@@ -246,7 +246,7 @@ fn answer(p: Pen, room: usize) -> WriteAnswer
 // The pen of the second pass, over no station where the plan is refused.
 fn second_pen(a: WriteAnswer, p: Pen) -> Pen
     requires { ⌜ p .n ≤ 256 ⌝ }
-    ensures { λ r. ⌜ r ≡ penOf (writes a (p .n)) true ⌝ }
+    ensures { λ r. ⌜ r ≡ penOf (secondCount a (p .n)) true ⌝ }
 {
     match a {
         WriteAnswer::Length(_) => pen_of(p.n, true),
@@ -259,7 +259,7 @@ fn second_pen(a: WriteAnswer, p: Pen) -> Pen
 // A pass over the first stations of a list, as many as the pen says.
 fn each(list: &[Station], out: &mut [u8], w: Pen) -> Pen
     requires { ⌜ w .n ≤ length (now list) ⌝ }
-    ensures { λ r. ⌜ (drafted (now (list .entry)) (w .n) (record { pen = w; out = now (out .entry) }) ≡ record { pen = r; out = now (out .exit) }) × NameSized (now (list .entry)) (w .n) ⌝ }
+    ensures { λ r. ⌜ drafted (now (list .entry)) (w .n) (record { pen = w; out = now (out .entry) }) ≡ record { pen = r; out = now (out .exit) } ⌝ }
 {
     let n = w.n;
     let mut p = w;

@@ -1,7 +1,8 @@
 -- A walk by hand, with three calls and no branch: the borrow of the records is given up to `fill`, at its own lifetime, share and name.
 --
-use Rattle.plan_format.proofs.Walk.{ !, Atoms, Calls, Contract, FmC, Fml, Fun, GName, Given, Heap, Is, Lasts, Lft, List, Loops, Meets, Memory, MutSlice, RefT, Room, Routine, SProp, Share, ShrSlice, Stays, Tables, Triple, URA, Val, Walks, WpFn, WpFn-mono, [], _$_, _≤_, _∙_, _∵_, _∷_, _≡_, _⊛_, addr, agg, alloc0, alloc1, and-then, ap, assigns, await, by, calls-at, cited, done, drop, emp, ends-at, ensured, ent, enter, entered, exE, fact, feqL, finally, fjoin, fld, flft, fmOf, forget, frame, free0, free1, from, fsplit, fst∗, ftrue, gave-slice, givenOf, goes-gave-slice, goes-none-slice, heard, hop, id⊢, init, join, keep, keeps, land, lasts, later, length, load, look, look-in, move, mut-slice-tells, named, no-more, nothing, nothing-lawful, of-opd, onEntry, owned, owns, params1, pass0, pass1, peeks, pick, plain, qed, raw, refl, returns, says, sem, sep, shows, shr-slice-copy, shr-slice-tells, slice-vals, sliceVal, snd∗, some, split, stay-none-slice, stop, sub, subst, suffices, sym, tables, tablesOf, tripleOf, u8, uint-lawful, uint-makes, unit, use1, use2, usize, via, vint, w64, walk-meets, walkOf, walked, whole, ‵, ℕ, ⋆}
+use Rattle.plan_format.proofs.Walk.{ !, Atoms, Calls, Contract, FmC, Fml, Fun, GName, Given, Heap, Is, Lasts, Lft, List, Loops, Meets, Memory, MutSlice, RefT, Room, Routine, SProp, Share, ShrSlice, Stays, Tables, Triple, URA, Val, Walks, WpFn, WpFn-mono, [], _$_, _<_, _≤_, _∙_, _∵_, _∷_, _≡_, _⊛_, addr, agg, alloc0, alloc1, and-then, ap, assigns, await, by, calls-at, cited, done, drop, emp, ends-at, ensured, ent, enter, entered, exE, fact, feqL, finally, fjoin, fld, flft, fmOf, forget, frame, free0, free1, from, fsplit, fst∗, ftrue, gave-slice, givenOf, goes-gave-slice, goes-none-slice, heard, hop, id⊢, init, join, keep, keeps, land, lasts, later, length, load, look, look-in, move, mut-slice-tells, named, no-more, nothing, nothing-lawful, of-opd, onEntry, owned, owns, params1, pass0, pass1, peeks, pick, plain, qed, raw, refl, returns, says, sem, sep, shows, shr-slice-copy, shr-slice-tells, slice-vals, sliceVal, snd∗, some, split, stay-none-slice, stop, sub, subst, suffices, sym, tables, tablesOf, tripleOf, u8, uint-lawful, uint-makes, uint-tells, uint-vals, unit, use1, use2, usize, via, vint, w64, w8, walk-meets, walkOf, walked, whole, ‵, ℕ, ⋆}
 use denote.Enum.Laws as EL
+use denote.Plain.{uint-copy}
 use mathlib.Core.List.{_++_}
 use lib.ListN.{drop as dropN}
 use Rattle.plan_format.specs.declared.Station.{Station}
@@ -11,6 +12,7 @@ use Rattle.plan_format.specs.Plan.{pairWrong, stationsFrom}
 use Rattle.plan_format.specs.Reading.{reading, readOf}
 use Rattle.plan_reading.specs.Promises.{JudgesIn, ReadsPlan}
 use Rattle.plan_format.proofs.Accepted.{reading-readable}
+use Rattle.plan_format.proofs.Typed.{slice-each}
 use Rattle.plan_format.proofs.Station as T
 use Rattle.plan_format.proofs.ReadAnswer as E
 use Rattle.plan_format.proofs.ReadAnswer.Laws as E′
@@ -132,7 +134,8 @@ module _ {M : Type 1} (𝓤 : URA M) (H : Heap 𝓤) (A : Atoms 𝓤) (W : Given
         -- [_8; …; _7; …; _6; …; _5; …; _4; …; _3; …; _2; …; _1; …; _0; …; the tokens; what the parameters own]
         assigns ! (of-opd ! (load ! (from ! (fld ! refl (stop !))) (look-in ! 12 (sub ! 1 refl (whole !))))) (from ! (stop !)) (init ! 6 refl (tt, record { fits = room .0 })) $
         -- `judge_in`
-        move ! (19 ∷ []) $ fsplit ! $ use1 W (‵ Own ⊛ ‵ Own) (shr-slice-copy 𝓤 H A W (named 0) κ u8 .twice x (xl ∷ [])) $ split ! $ move ! (21 ∷ []) $ split ! $ move ! (0 ∷ 2 ∷ []) $
+        move ! (19 ∷ []) $ fsplit ! $ use1 W (‵ Own ⊛ ‵ Own) (shr-slice-copy 𝓤 H A W (named 0) κ u8 .twice x (xl ∷ [])) $ split ! $ move ! (21 ∷ []) $ split ! $ move ! (2 ∷ 0 ∷ []) $
+        slice-each u8 (uint-vals w8) (uint-tells w8) 0 (λ n. n < 256) (λ n is. is .1) tt (named 0) κ q (uint-copy 𝓤 H A W w8) x (λ bytes. move ! (1 ∷ 0 ∷ []) $
         use2 W (raw (Judge 𝓤 H A mem run .pre to-judge)) goes-judge $
         -- [what is asked; the other token; what plan owns; what stations owns; _8; …]
         calls-at ! fm (Judge 𝓤 H A mem run) known-judge to-judge (and-then ! (load ! (from ! (stop !)) (look ! 18 refl)) (and-then ! (load ! (from ! (stop !)) (look ! 10 refl)) (no-more !))) (λ v.
@@ -163,7 +166,7 @@ module _ {M : Type 1} (𝓤 : URA M) (H : Heap 𝓤) (A : Atoms 𝓤) (W : Given
         assigns ! (of-opd ! (load ! (from ! (stop !)) (look ! 14 refl))) (from ! (stop !)) (init ! 20 refl (EL.lawful E.the-type E′.the-laws 𝓤 H A W tt .typed r _ is .0)) $
         returns ! (look ! 20 refl) $ forget ! 4 refl $ forget ! 6 refl $ forget ! 8 refl $ forget ! 10 refl $ forget ! 12 refl $ forget ! 14 refl $ forget ! 16 refl $ forget ! 18 refl $ forget ! 20 refl $
         move ! (20 ∷ 21 ∷ []) $ free1 ! $ move ! (18 ∷ 19 ∷ []) $ free1 ! $ move ! (16 ∷ 17 ∷ []) $ free1 ! $ move ! (14 ∷ 15 ∷ []) $ free1 ! $ move ! (12 ∷ 13 ∷ []) $ free1 ! $ move ! (10 ∷ 11 ∷ []) $ free1 ! $ move ! (8 ∷ 9 ∷ []) $ free1 ! $ move ! (6 ∷ 7 ∷ []) $ free1 ! $ move ! (4 ∷ 5 ∷ []) $ free1 ! $ free0 ! $
-        owned ! E.the-row (Is E.the-row) (EL.makes E.the-type E′.the-plain 𝓤 H A) r (v ∷ []) is $ keep ! (1 ∷ 4 ∷ 2 ∷ 0 ∷ []) $ by ! (exits r v (zs .1 .0) (record { judges = e; records = e″ ∙ ap left e′ }) l))))))))))))))))))))))))
+        owned ! E.the-row (Is E.the-row) (EL.makes E.the-type E′.the-plain 𝓤 H A) r (v ∷ []) is $ keep ! (1 ∷ 4 ∷ 2 ∷ 0 ∷ []) $ by ! (exits r v (zs .1 .0) (record { judges = e; typed = bytes; records = e″ ∙ ap left e′ }) l)))))))))))))))))))))))))
 
 module _ {M : Type 1} (𝓤 : URA M) (H : Heap 𝓤) (A : Atoms 𝓤) (W : Given 𝓤 H A) (mem : Memory → SProp 𝓤) (run : Routine → Fun 𝓤) where
   read-walks : (C : Calls 𝓤 H) (Λ : Loops 𝓤 H) → FmC 𝓤 H (W .laws) C → Triple 𝓤 (C #plan-reading·judge-in) (Judge 𝓤 H A mem run) → Triple 𝓤 (C #plan-reading·read-of) (ReadOf 𝓤 H A mem run) → Triple 𝓤 (C #plan-reading·fill) (Fill 𝓤 H A mem run)

@@ -1,12 +1,11 @@
 -- `writer::each` meets its contract: a walk of its MIR, by hand. The list is looked into once, before the loop. In each turn one station is copied out of it, the bytes are lent again for the call of `pen_step`, and come back.
 --
-use Rattle.plan_format.proofs.Walk.{ !, Atoms, Below, Bool, Calls, Contract, Env, Fml, Fun, GName, Given, Heap, InvImage·wf, Is, Item, Lasts, Lft, List, Loops, Meets, Memory, MutSlice, Nat·lt-wfRel, Out, RefT, Room, Routine, SProp, Share, ShrSlice, Sq, Stays, Tables, Triple, Ty, URA, Val, Walks, WellFounded, Wp, WpFn, WpFn-mono, [], _$_, _*_, _+_, _-_, _<_, _^_, _∙_, _∵_, _∷_, _≡_, _≤_, _⊛_, add-one-dec, add-one-le, addr, afterBlock, afterSeq, afterTurn, again, agg, alloc0, alloc1, and-then, anyQ, ap, arith, arr-parts, assigns, assigns-last, at-slice, atRet, atReturn, await, bin, blocks, by, calls-at, cited, codedHoleys, decLt, done, drop, elem-back, elem-out, ends-at, ensured, ent, enter, entered, erased, exec, fact, fat, fdies, feqL, first, fjoin, fld, flft, fmOf, fobor, forget, frame, free0, free1, fres, from, froom, fshr-bor, fsplit, ftrue, fullShare, getD, givenOf, goes-none, goes-none-slice, goes-slice, heard, heres, hop, id⊢, imm, init, join, keep, keeps, land, lasts, later, le-antisymm, le-ltb, leaves-loop, length, lft-end, lft-new, lit, lit<, load, look, look-in, look-raw, looks-slice, loops, lt-ltb, move, mut, mut-slice-tells, name-length, named, needs, no-more, nothing, of-opd, offset-fits, onEntry, only, owned, owns, params1, pass0, pass1, peeks, pick, place-is, plain, pointee, pureI, qed, raw, refl, returns, rewrite, row, runs, says, sem, sep, shares, shows, shr-slice-tells, shuts-slice, slice-vals, sliceTy, sliceVal, smach, some, split, stay-none, stay-none-slice, stay-slice, stays, stop, store, sub, subst, suffices, svals, sym, tables, tablesOf, tripleOf, tyBool, tyInt, tyPtr, tyRef, u8, use1, use2, use3, vbool, vint, vptr, w64, w8, walk-meets, walkOf, walked, whole, zero-le, ‵, ℕ, ⋆}
+use Rattle.plan_format.proofs.Walk.{ !, Atoms, Below, Bool, Calls, Contract, Env, Fml, Fun, GName, Given, Heap, InvImage·wf, Is, Item, Lasts, Lft, List, Loops, Meets, Memory, MutSlice, Nat·lt-wfRel, Out, RefT, Room, Routine, SProp, Share, ShrSlice, Sq, Stays, Tables, Triple, Ty, URA, Val, Walks, WellFounded, Wp, WpFn, WpFn-mono, [], _$_, _*_, _+_, _-_, _<_, _^_, _∙_, _∵_, _∷_, _≡_, _≤_, _⊛_, add-one-dec, add-one-le, addr, afterBlock, afterSeq, afterTurn, again, agg, alloc0, alloc1, and-then, anyQ, ap, arith, arr-parts, assigns, assigns-last, at-slice, atRet, atReturn, await, bin, blocks, by, calls-at, cited, codedHoleys, decLt, done, drop, elem-back, elem-out, ends-at, ensured, ent, enter, entered, erased, exec, fact, fat, fdies, feqL, first, fjoin, fld, flft, fmOf, fobor, forget, frame, free0, free1, fres, from, froom, fshr-bor, fsplit, ftrue, fullShare, getD, givenOf, goes-none, goes-none-slice, goes-slice, heard, heres, hop, id⊢, imm, init, join, keep, keeps, land, lasts, later, le-antisymm, le-ltb, leaves-loop, length, lft-end, lft-new, lit, lit<, load, look, look-in, look-raw, looks-slice, loops, lt-ltb, move, mut, mut-slice-tells, named, needs, no-more, nothing, of-opd, offset-fits, onEntry, only, owned, owns, params1, pass0, pass1, peeks, pick, place-is, plain, pointee, pureI, qed, raw, refl, returns, rewrite, row, runs, says, sem, sep, shares, shows, shr-slice-tells, shuts-slice, slice-vals, sliceTy, sliceVal, smach, some, split, stay-none, stay-none-slice, stay-slice, stays, stop, store, sub, subst, suffices, svals, sym, tables, tablesOf, tripleOf, tyBool, tyInt, tyPtr, tyRef, u8, use1, use2, use3, vbool, vint, vptr, w64, w8, walk-meets, walkOf, walked, whole, zero-le, ‵, ℕ, ⋆}
 use denote.Struct.Laws as LL
-use borrow.Author.Count.{below-more}
 use Rattle.plan_format.specs.declared.Station.{Station}
 use Rattle.plan_writing.specs.declared.Pen.{Pen}
 use Rattle.plan_format.specs.Writing.{noStation}
-use Rattle.plan_writing.specs.Steps.{Draft, stepped, drafted, NameSized}
+use Rattle.plan_writing.specs.Steps.{Draft, stepped, drafted}
 use Rattle.plan_writing.proofs.WriteAgain.{LentAgain, lends-again, comes-back}
 use Rattle.plan_writing.proofs.WriteDraft.{drafted-zero, drafted-next, length-drafted}
 use Rattle.plan_format.proofs.Station as T
@@ -82,10 +81,10 @@ module _ {M : Type 1} (𝓤 : URA M) (H : Heap 𝓤) (A : Atoms 𝓤) (W : Given
   abbrev Post : Val → SProp 𝓤
   Post = walkOf 𝓤 H A each.ended stayed (each.clauses 𝓤 H A mem run) .post (((κ, (κ′, tt)), (q, (q′, tt)), tt, a, vals), tt)
 
-  exits : Is P.the-row (D n .pen) (pmach (D n .pen) ∷ []) → NameSized ss n → ent 𝓤 (⋆ 𝓤 H A (‵ (flft κ q) ∷ ‵ Shr ∷ ‵ Res ∷ ‵ (Mut (D n .out)) ∷ ‵ (flft κ′ q′) ∷ [])) (Post (pmach (D n .pen)))
-  exits is all =
+  exits : Is P.the-row (D n .pen) (pmach (D n .pen) ∷ []) → ent 𝓤 (⋆ 𝓤 H A (‵ (flft κ q) ∷ ‵ Shr ∷ ‵ Res ∷ ‵ (Mut (D n .out)) ∷ ‵ (flft κ′ q′) ∷ [])) (Post (pmach (D n .pen)))
+  exits is =
       qed W (‵ (flft κ q) ∷ ‵ Shr ∷ ‵ Res ∷ ‵ (Mut (D n .out)) ∷ ‵ (flft κ′ q′) ∷ []) ∵
-      suffices ! _ (ends-at 𝓤 H A each.ended stayed (each.clauses 𝓤 H A mem run) W (((κ, (κ′, tt)), (q, (q′, tt)), tt, a, vals), tt) (pmach (D n .pen)) (D n .pen) (tt, (D n .out, (tt, tt))) (tt, (Len n, (tt, tt)))) $ says ! (refl, all) $
+      suffices ! _ (ends-at 𝓤 H A each.ended stayed (each.clauses 𝓤 H A mem run) W (((κ, (κ′, tt)), (q, (q′, tt)), tt, a, vals), tt) (pmach (D n .pen)) (D n .pen) (tt, (D n .out, (tt, tt))) (tt, (Len n, (tt, tt)))) $ says ! refl $
       nothing ! $ move ! (5 ∷ 0 ∷ []) $ join ! $ move ! (1 ∷ 0 ∷ []) $ join ! $ frame ! $
       move ! (1 ∷ 0 ∷ []) $ fjoin ! $ pureI ! (at-slice T.the-row x (xl ∷ [])) (tt, (tt, tt)) (refl, x-room) $ fjoin ! $
       move ! (1 ∷ []) $ rewrite ! 0 (λ (m : ℕ). ‵ (MutSlice (named 1) κ′ u8 .own (y γ (D n .out)) (sliceVal (b, o) m ∷ []))) (Len n) refl $
@@ -104,7 +103,7 @@ module _ {M : Type 1} (𝓤 : URA M) (H : Heap 𝓤) (A : Atoms 𝓤) (W : Given
       move ! (2 ∷ 0 ∷ []) $ fjoin ! $ move ! (1 ∷ 0 ∷ []) $ join ! $ nothing ! $ move ! (1 ∷ 0 ∷ []) $ done !
 
   abbrev Upto : Type 0
-  Upto = (k : ℕ) × ((k ≤ n) × (Is P.the-row (D k .pen) (pmach (D k .pen) ∷ []) × NameSized ss k))
+  Upto = (k : ℕ) × ((k ≤ n) × Is P.the-row (D k .pen) (pmach (D k .pen) ∷ []))
 
   abbrev Nearer : Upto → Upto → Type 0
   Nearer j i = n - j .0 < n - i .0
@@ -164,7 +163,7 @@ module _ {M : Type 1} (𝓤 : URA M) (H : Heap 𝓤) (A : Atoms 𝓤) (W : Given
           -- the bytes are lent again, for a lifetime ν of the call
           lft-new ! tt (λ ν. move ! (5 ∷ 6 ∷ []) $
           use2 W (later (some (λ (δ : GName). ‵ (MutSlice (named 0) (ν ∷ []) u8 .own (y δ out-k) (yl out-k ∷ [])) ⊛ ‵ (LentAgain u8 κ′ (ν ∷ []) q′ γ b o δ out-k)))) (lends-again u8 κ′ (ν ∷ []) q′ γ b o 𝓤 H A W (named 1) (named 0) out-k) $ await ! tt $ pick ! (λ δ. split ! $
-          move ! (2 ∷ 0 ∷ []) $ use2 W (raw (PenStep 𝓤 H A mem run .pre (to ν δ out-k elem pen-k))) (goes-to ν δ out-k elem pen-k s-is (k .1 .1 .0)) $
+          move ! (2 ∷ 0 ∷ []) $ use2 W (raw (PenStep 𝓤 H A mem run .pre (to ν δ out-k elem pen-k))) (goes-to ν δ out-k elem pen-k s-is (k .1 .1)) $
           -- [what is asked; the lender's part; the row; what shuts; the fractured borrow; res; _11; …; _10; …; _9; …; _8; …; _7; …; _6; …; _5; …; _4; …]
           calls-at ! (fmOf 𝓤 H (W .laws) 𝓣) (PenStep 𝓤 H A mem run) known (to ν δ out-k elem pen-k) (and-then ! (load ! (from ! (stop !)) (look ! 12 refl)) (and-then ! (load ! (from ! (stop !)) (look ! 6 refl)) (and-then ! (load ! (from ! (stop !)) (look ! 20 refl)) (no-more !)))) (λ v.
           use1 W (later (some (λ (r : Pen). ((‵ (flft (ν ∷ []) fullShare) ⊛ ‵ ftrue) ⊛ ‵ (P.the-row .own r (v ∷ []))) ⊛ raw (ensured 𝓤 H A step.ended (step.clauses 𝓤 H A mem run) (ν ∷ [], tt) (y δ out-k, (elem, (pen-k, tt))) tt r)))) (id⊢ 𝓤 _) $ await ! tt $ pick ! (λ r.
@@ -184,7 +183,7 @@ module _ {M : Type 1} (𝓤 : URA M) (H : Heap 𝓤) (A : Atoms 𝓤) (W : Given
           rewrite ! 0 (λ (d : Draft). ‵ (Mut (d .out))) (sym (drawn r (zs .0) e)) refl $
           rewrite ! 22 (λ (d : Draft). ‵ (fat fullShare P′.mir l₅ 0 (pmach (d .pen)))) (sym (drawn r (zs .0) e)) refl $
           keep ! (4 ∷ 5 ∷ 6 ∷ 7 ∷ 0 ∷ 1 ∷ 8 ∷ 9 ∷ 10 ∷ 11 ∷ 12 ∷ 13 ∷ 14 ∷ 15 ∷ 16 ∷ 17 ∷ 18 ∷ 19 ∷ 20 ∷ 21 ∷ 22 ∷ 23 ∷ 24 ∷ 25 ∷ 26 ∷ 27 ∷ 28 ∷ 29 ∷ 30 ∷ 31 ∷ 32 ∷ 33 ∷ []) $
-          again ! Nearer At k (k .0 + 1, (add-one-le less, (subst (λ (d : Draft). Is P.the-row (d .pen) (pmach (d .pen) ∷ [])) (sym (drawn r (zs .0) e)) (subst (Is P.the-row r) (LL.tells P.the-type P′.the-laws r _ r-is) r-is), below-more (λ (i : ℕ). length (getD ss i noStation .name) ≡ 16) (k .0) (k .1 .1 .1) (name-length elem s-is)))) (add-one-dec n (k .0) less))))))))))
+          again ! Nearer At k (k .0 + 1, (add-one-le less, subst (λ (d : Draft). Is P.the-row (d .pen) (pmach (d .pen) ∷ [])) (sym (drawn r (zs .0) e)) (subst (Is P.the-row r) (LL.tells P.the-type P′.the-laws r _ r-is) r-is))) (add-one-dec n (k .0) less))))))))))
         where
           elem : Station
           elem = getD ss (k .0) noStation
@@ -219,10 +218,10 @@ module _ {M : Type 1} (𝓤 : URA M) (H : Heap 𝓤) (A : Atoms 𝓤) (W : Given
           assigns ! (of-opd ! (load ! (from ! (stop !)) (look ! 19 refl))) (from ! (stop !)) (init ! 29 refl (LL.lawful P.the-type P′.the-laws 𝓤 H A W .typed (D n .pen) _ last-is .0)) $
           returns ! (look ! 29 refl) $ forget ! 15 refl $ forget ! 17 refl $ forget ! 19 refl $ forget ! 21 refl $ forget ! 23 refl $ forget ! 25 refl $ forget ! 27 refl $ forget ! 29 refl $
           move ! (29 ∷ 30 ∷ []) $ free1 ! $ move ! (27 ∷ 28 ∷ []) $ free1 ! $ move ! (25 ∷ 26 ∷ []) $ free1 ! $ move ! (23 ∷ 24 ∷ []) $ free1 ! $ move ! (21 ∷ 22 ∷ []) $ free1 ! $ move ! (19 ∷ 20 ∷ []) $ free1 ! $ move ! (17 ∷ 18 ∷ []) $ free1 ! $
-          move ! (15 ∷ 16 ∷ []) $ free1 ! $ move ! (13 ∷ 14 ∷ []) $ free1 ! $ move ! (11 ∷ 12 ∷ []) $ free1 ! $ move ! (9 ∷ 10 ∷ []) $ free1 ! $ move ! (7 ∷ 8 ∷ []) $ free1 ! $ move ! (5 ∷ 6 ∷ []) $ free1 ! $ free0 ! $ by ! (exits last-is (subst (NameSized ss) (le-antisymm (k .1 .0) over) (k .1 .1 .1)))
+          move ! (15 ∷ 16 ∷ []) $ free1 ! $ move ! (13 ∷ 14 ∷ []) $ free1 ! $ move ! (11 ∷ 12 ∷ []) $ free1 ! $ move ! (9 ∷ 10 ∷ []) $ free1 ! $ move ! (7 ∷ 8 ∷ []) $ free1 ! $ move ! (5 ∷ 6 ∷ []) $ free1 ! $ free0 ! $ by ! (exits last-is)
         where
           last-is : Is P.the-row (D n .pen) (pmach (D n .pen) ∷ [])
-          last-is = subst (λ (m : ℕ). Is P.the-row (D m .pen) (pmach (D m .pen) ∷ [])) (le-antisymm (k .1 .0) over) (k .1 .1 .0)
+          last-is = subst (λ (m : ℕ). Is P.the-row (D m .pen) (pmach (D m .pen) ∷ [])) (le-antisymm (k .1 .0) over) (k .1 .1)
 
       turns : (k : Upto) → Sq W (At k) (runs C Λ En mirs.turn-1 (anyQ (Turned k)))
       turns k = elim (decLt (k .0) n) [ yes less ↦ more k less | no over ↦ ends k (omega arith) ]
@@ -248,7 +247,7 @@ module _ {M : Type 1} (𝓤 : URA M) (H : Heap 𝓤) (A : Atoms 𝓤) (W : Given
         -- [the row; what shuts; the fractured borrow; the bytes' token; true; res; the list's fact; the bytes; what w owns; _11; …]
         keep ! (0 ∷ 1 ∷ 2 ∷ 5 ∷ 7 ∷ 3 ∷ 9 ∷ 10 ∷ 11 ∷ 12 ∷ 13 ∷ 14 ∷ 15 ∷ 16 ∷ 17 ∷ 18 ∷ 19 ∷ 20 ∷ 21 ∷ 22 ∷ 23 ∷ 24 ∷ 25 ∷ 26 ∷ 27 ∷ 28 ∷ 29 ∷ 30 ∷ 31 ∷ 32 ∷ 33 ∷ 34 ∷ []) $
         rewrite ! 4 (λ (d : Draft). ‵ (Mut (d .out))) (sym start) refl $ rewrite ! 20 (λ (d : Draft). ‵ (fat fullShare P′.mir l₅ 0 (pmach (d .pen)))) (sym start) refl $
-        looped q″ l₀ l₁ l₂ l₃ l₄ l₅ l₆ l₇ l₈ l₉ l₁₀ l₁₁ l₁₂ (0, (zero-le, (subst (λ (d : Draft). Is P.the-row (d .pen) (pmach (d .pen) ∷ [])) (sym start) w-is, λ i none. absurd (omega arith))))))))))))))))))
+        looped q″ l₀ l₁ l₂ l₃ l₄ l₅ l₆ l₇ l₈ l₉ l₁₀ l₁₁ l₁₂ (0, (zero-le, subst (λ (d : Draft). Is P.the-row (d .pen) (pmach (d .pen) ∷ [])) (sym start) w-is))))))))))))))))
 
 module _ {M : Type 1} (𝓤 : URA M) (H : Heap 𝓤) (A : Atoms 𝓤) (W : Given 𝓤 H A) (mem : Memory → SProp 𝓤) (run : Routine → Fun 𝓤) where
   each-walks : (𝓣 : Tables 𝓤 H) → Triple 𝓤 (𝓣 .C #plan-writing·pen-step) (PenStep 𝓤 H A mem run) → Walks 𝓤 H A each.ended stayed (WpFn 𝓤 H (𝓣 .C) (𝓣 .Λ) code.function) (each.clauses 𝓤 H A mem run)

@@ -1,16 +1,20 @@
 -- `writer::write` meets its contract: a walk of its MIR, by hand, with five calls and no branch. The bytes are lent again to the first pass, and given up to the second at their own lifetime, share and name.
 --
-use Rattle.plan_format.proofs.Walk.{ !, Atoms, Calls, Contract, Env, FmC, Fml, Fun, GName, Given, Heap, Is, Item, Lasts, Lft, List, Loops, Meets, Memory, MutSlice, RefT, Room, Routine, SProp, Share, ShrSlice, Sq, Stays, Tables, Triple, Ty, URA, Val, Walks, WpFn, WpFn-mono, [], _$_, _<_, _^_, _∙_, _∵_, _∷_, _≡_, _≤_, _⊛_, addr, agg, alloc0, alloc1, and-then, assigns, atRet, await, by, calls-at, cited, done, drop, emp, ends-at, ensured, ent, enter, entered, erased, exE, fact, false, fat, fdies, feqL, finally, fjoin, fld, flft, fmOf, forget, frame, free0, free1, from, froom, fsplit, fst∗, ftrue, fullShare, gave-slice, givenOf, goes-gave-slice, goes-none, goes-none-slice, heard, hop, id⊢, imm, init, join, keep, keeps, land, lasts, later, length, lft-end, lft-new, load, look, look-in, move, mut, mut-slice-tells, named, no-more, nothing, of-opd, onEntry, owned, owns, params1, pass0, pass1, peeks, pick, plain, pointee, qed, raw, refl, returns, rewrite, runs, says, sem, sep, shows, shr-slice-copy, shr-slice-tells, slice-vals, sliceTy, sliceVal, snd∗, some, split, stay-none, stay-none-slice, stop, store, sub, suffices, sym, tables, tablesOf, tripleOf, true, tyInt, tyRef, u64, u8, uint-makes, uint-tells, uint-vals, use1, use2, use3, usize, via, vint, vptr, w64, w8, walk-meets, walkOf, walked, whole, ‵, ℕ, ⋆}
+use Rattle.plan_format.proofs.Walk.{ !, Atoms, Calls, Contract, Env, FmC, Fml, Fun, GName, Given, Heap, Is, Item, Lasts, Lft, List, Loops, Meets, Memory, MutSlice, RefT, Room, Routine, SProp, Share, ShrSlice, Sq, Stays, Tables, Triple, Ty, URA, Val, Walks, WpFn, WpFn-mono, [], _$_, _<_, _^_, _∙_, _∵_, _∷_, _≡_, _≤_, _⊛_, addr, agg, alloc0, alloc1, and-then, assigns, atRet, await, by, calls-at, cited, done, drop, emp, ends-at, ensured, ent, enter, entered, erased, exE, fact, false, fat, fdies, feqL, finally, fjoin, fld, flft, fmOf, forget, frame, free0, free1, from, froom, fsplit, fst∗, ftrue, fullShare, gave-slice, givenOf, goes-gave-slice, goes-none, goes-none-slice, heard, hop, id⊢, imm, init, join, keep, keeps, land, lasts, later, length, lft-end, lft-new, load, look, look-in, move, mut, mut-slice-tells, named, no-more, nothing, of-opd, onEntry, owned, owns, params1, pass0, pass1, peeks, pick, plain, pointee, qed, raw, refl, returns, rewrite, runs, says, sem, sep, shows, shr-slice-copy, shr-slice-tells, slice-vals, sliceTy, sliceVal, snd∗, some, split, stay-none, stay-none-slice, stop, store, sub, suffices, svals, sym, tables, tablesOf, tripleOf, true, tyInt, tyRef, u64, u8, uint-makes, uint-tells, uint-vals, use1, use2, use3, usize, via, vint, vptr, w64, w8, walk-meets, walkOf, walked, whole, ‵, ℕ, ⋆}
 use denote.Struct.Laws as LL
 use denote.Enum.Laws as EL
 use Rattle.plan_format.specs.declared.Station.{Station}
 use Rattle.plan_format.specs.declared.WriteAnswer.{WriteAnswer}
+use Rattle.plan_format.specs.Typed.{Sized}
+use Rattle.plan_format.specs.Writing.{noStation}
 use Rattle.plan_writing.specs.declared.Pen.{Pen}
 use Rattle.plan_writing.specs.Promises.{WritesPlan}
-use Rattle.plan_writing.specs.Steps.{drafted, NameSized, penOf, wanted, answered, writes}
+use Rattle.plan_writing.specs.Steps.{drafted, penOf, wanted, answered, secondCount}
 use Rattle.plan_writing.proofs.WriteAgain.{LentAgain, lends-again, comes-back}
 use Rattle.plan_writing.proofs.WriteLaw.{First, first-held, first-most, second-held, written}
 use Rattle.plan_format.proofs.Station as T
+use Rattle.plan_format.proofs.Station.Laws as T′
+use Rattle.plan_format.proofs.Typed.{slice-each, station-sized}
 use Rattle.plan_format.proofs.WriteAnswer as E
 use Rattle.plan_format.proofs.WriteAnswer.Laws as E′
 use Rattle.plan_writing.proofs.Pen as P
@@ -60,8 +64,8 @@ module _ {M : Type 1} (𝓤 : URA M) (H : Heap 𝓤) (A : Atoms 𝓤) (mem : Mem
   answer-of : (p : Pen) (room : ℕ) (r : WriteAnswer) → ent 𝓤 (ensured 𝓤 H A answer.ended (answer.clauses 𝓤 H A mem run) tt (p, (room, tt)) tt r) (fact 𝓤 (r ≡ answered p room))
   answer-of p room r = exE 𝓤 _ (λ ws. snd∗ 𝓤 (sem 𝓤 H A (lasts answer.ended tt (p, (room, tt)) ws)) (fact 𝓤 (r ≡ answered p room)))
 
-  second-of : (r : WriteAnswer) (p w : Pen) → ent 𝓤 (ensured 𝓤 H A second-pen.ended (second-pen.clauses 𝓤 H A mem run) tt (r, (p, tt)) tt w) (fact 𝓤 (w ≡ penOf (writes r (p .n)) true))
-  second-of r p w = exE 𝓤 _ (λ ws. snd∗ 𝓤 (sem 𝓤 H A (lasts second-pen.ended tt (r, (p, tt)) ws)) (fact 𝓤 (w ≡ penOf (writes r (p .n)) true)))
+  second-of : (r : WriteAnswer) (p w : Pen) → ent 𝓤 (ensured 𝓤 H A second-pen.ended (second-pen.clauses 𝓤 H A mem run) tt (r, (p, tt)) tt w) (fact 𝓤 (w ≡ penOf (secondCount r (p .n)) true))
+  second-of r p w = exE 𝓤 _ (λ ws. snd∗ 𝓤 (sem 𝓤 H A (lasts second-pen.ended tt (r, (p, tt)) ws)) (fact 𝓤 (w ≡ penOf (secondCount r (p .n)) true)))
 
 module _ {M : Type 1} (𝓤 : URA M) (H : Heap 𝓤) (A : Atoms 𝓤) (W : Given 𝓤 H A) (mem : Memory → SProp 𝓤) (run : Routine → Fun 𝓤) (κ κ′ : Lft) (q q′ : Share) (x : RefT (List Station)) (n b o : ℕ) (γ : GName) (ys : List ℕ)
     (x-room : Room T.the-row (length (x .now))) (n-fits : n < 2 ^ 64) (room : Room u8 (length ys)) where
@@ -176,7 +180,7 @@ module _ {M : Type 1} (𝓤 : URA M) (H : Heap 𝓤) (A : Atoms 𝓤) (W : Given
           use1 W (raw (SecondPen 𝓤 H A mem run .pre (to-second r v₃ q₁ v₂))) (goes-second r v₃ q₁ v₂ q-is (first-most f)) $
           calls-at ! fm (SecondPen 𝓤 H A mem run) known-second (to-second r v₃ q₁ v₂) (and-then ! (load ! (from ! (stop !)) (look ! 20 refl)) (and-then ! (load ! (from ! (stop !)) (look ! 22 refl)) (no-more !))) (λ v₄.
           use1 W (later (some (λ (w : Pen). (‵ ftrue ⊛ ‵ (P.the-row .own w (v₄ ∷ []))) ⊛ raw (ensured 𝓤 H A second-pen.ended (second-pen.clauses 𝓤 H A mem run) tt (r, (q₁, tt)) tt w)))) (id⊢ 𝓤 _) $ await ! tt $ pick ! (λ w.
-          split ! $ move ! (1 ∷ []) $ use1 W (raw (fact 𝓤 (w ≡ penOf (writes r (q₁ .n)) true))) (second-of 𝓤 H A mem run r q₁ w) $ heard ! (w ≡ penOf (writes r (q₁ .n)) true) (λ e₄. split ! $ drop ! $
+          split ! $ move ! (1 ∷ []) $ use1 W (raw (fact 𝓤 (w ≡ penOf (secondCount r (q₁ .n)) true))) (second-of 𝓤 H A mem run r q₁ w) $ heard ! (w ≡ penOf (secondCount r (q₁ .n)) true) (λ e₄. split ! $ drop ! $
           peeks ! P.the-row (Is P.the-row) (shows 𝓤 H A P.the-row) w (v₄ ∷ []) (λ w-is. land ! (from ! (stop !)) (init ! 18 refl (LL.lawful P.the-type P′.the-laws 𝓤 H A W .typed w _ w-is .0)) $
           assigns ! (addr ! (from ! (fld ! refl (hop ! (look-in ! 26 (sub ! 0 refl (whole !))) (stop !))))) (from ! (stop !)) (init ! 8 refl (tt, tt)) $
           assigns ! (agg ! (and-then ! (load ! (from ! (stop !)) (look ! 8 refl)) (and-then ! (load ! (from ! (fld ! refl (stop !))) (look-in ! 26 (sub ! 1 refl (whole !)))) (no-more !)))) (from ! (stop !)) (init ! 6 refl (tt, (tt, (record { fits = room .0 }, tt)))) $
@@ -188,8 +192,8 @@ module _ {M : Type 1} (𝓤 : URA M) (H : Heap 𝓤) (A : Atoms 𝓤) (W : Given
           -- [what is asked; what the list owns; _13; …]
           calls-at ! fm (Each 𝓤 H A mem run) known-each (to-each κ′ q′ γ mid w v₄) (and-then ! (load ! (from ! (stop !)) (look ! 26 refl)) (and-then ! (load ! (from ! (stop !)) (look ! 2 refl)) (and-then ! (load ! (from ! (stop !)) (look ! 14 refl)) (no-more !)))) (λ v₅.
           use1 W (later (some (λ (u : Pen). ((‵ (flft κ q) ⊛ ‵ (flft κ′ q′) ⊛ ‵ ftrue) ⊛ ‵ (P.the-row .own u (v₅ ∷ []))) ⊛ raw (ensured 𝓤 H A each.ended (each.clauses 𝓤 H A mem run) (κ, (κ′, tt)) (x, (y γ mid, (w, tt))) tt u)))) (id⊢ 𝓤 _) $ await ! tt $ pick ! (λ u.
-          split ! $ move ! (1 ∷ []) $ use1 W (some (λ (zs : Lasts each.ended (κ, (κ′, tt)) (x, (y γ mid, (w, tt)))). ‵ (lasts each.ended (κ, (κ′, tt)) (x, (y γ mid, (w, tt))) zs) ⊛ raw (fact 𝓤 ((drafted ss (w .n) (record { pen = w; out = mid }) ≡ record { pen = u; out = zs .1 .0 }) × NameSized ss (w .n))))) (id⊢ 𝓤 _) $ pick ! (λ zs.
-          split ! $ move ! (1 ∷ []) $ heard ! ((drafted ss (w .n) (record { pen = w; out = mid }) ≡ record { pen = u; out = zs .1 .0 }) × NameSized ss (w .n)) (λ e₅. fsplit ! $ drop ! $ fsplit ! $ fsplit ! $ move ! (1 ∷ []) $ feqL ! (λ l₂.
+          split ! $ move ! (1 ∷ []) $ use1 W (some (λ (zs : Lasts each.ended (κ, (κ′, tt)) (x, (y γ mid, (w, tt)))). ‵ (lasts each.ended (κ, (κ′, tt)) (x, (y γ mid, (w, tt))) zs) ⊛ raw (fact 𝓤 (drafted ss (w .n) (record { pen = w; out = mid }) ≡ record { pen = u; out = zs .1 .0 })))) (id⊢ 𝓤 _) $ pick ! (λ zs.
+          split ! $ move ! (1 ∷ []) $ heard ! (drafted ss (w .n) (record { pen = w; out = mid }) ≡ record { pen = u; out = zs .1 .0 }) (λ e₅. fsplit ! $ drop ! $ fsplit ! $ fsplit ! $ move ! (1 ∷ []) $ feqL ! (λ l₂.
           -- [the last list; …; the tokens and the result; what the list owns; _13; …]
           move ! (2 ∷ []) $ split ! $ move ! (1 ∷ []) $ peeks ! P.the-row (Is P.the-row) (shows 𝓤 H A P.the-row) u (v₅ ∷ []) (λ u-is. land ! (from ! (stop !)) (init ! 9 refl (LL.lawful P.the-type P′.the-laws 𝓤 H A W .typed u _ u-is .0)) $
           -- [what u owns; the tokens; the last list; …; what the list owns; _13; …]
@@ -197,7 +201,7 @@ module _ {M : Type 1} (𝓤 : URA M) (H : Heap 𝓤) (A : Atoms 𝓤) (W : Given
           returns ! (look ! 31 refl) $ forget ! 5 refl $ forget ! 7 refl $ forget ! 9 refl $ forget ! 11 refl $ forget ! 13 refl $ forget ! 15 refl $ forget ! 17 refl $ forget ! 19 refl $ forget ! 21 refl $ forget ! 23 refl $ forget ! 25 refl $ forget ! 27 refl $ forget ! 29 refl $ forget ! 31 refl $
           move ! (31 ∷ 32 ∷ []) $ free1 ! $ move ! (29 ∷ 30 ∷ []) $ free1 ! $ move ! (27 ∷ 28 ∷ []) $ free1 ! $ move ! (25 ∷ 26 ∷ []) $ free1 ! $ move ! (23 ∷ 24 ∷ []) $ free1 ! $ move ! (21 ∷ 22 ∷ []) $ free1 ! $ move ! (19 ∷ 20 ∷ []) $ free1 ! $
           move ! (17 ∷ 18 ∷ []) $ free1 ! $ move ! (15 ∷ 16 ∷ []) $ free1 ! $ move ! (13 ∷ 14 ∷ []) $ free1 ! $ move ! (11 ∷ 12 ∷ []) $ free1 ! $ move ! (9 ∷ 10 ∷ []) $ free1 ! $ move ! (7 ∷ 8 ∷ []) $ free1 ! $ move ! (5 ∷ 6 ∷ []) $ free1 ! $ free0 ! $
-          owned ! E.the-row (Is E.the-row) (EL.makes E.the-type E′.the-plain 𝓤 H A) r (v₃ ∷ []) r-is $ keep ! (2 ∷ 5 ∷ 3 ∷ 0 ∷ []) $ by ! (exits r v₃ (zs .1 .0) (written f e₃ e₄ (e₅ .0)) (l₂ ∙ l))))))))))))))))
+          owned ! E.the-row (Is E.the-row) (EL.makes E.the-type E′.the-plain 𝓤 H A) r (v₃ ∷ []) r-is $ keep ! (2 ∷ 5 ∷ 3 ∷ 0 ∷ []) $ by ! (exits r v₃ (zs .1 .0) (written f e₃ e₄ e₅) (l₂ ∙ l))))))))))))))))
 
     walk : ent 𝓤 (onEntry 𝓤 H A write.signature (κ, (κ′, tt)) (q, (q′, tt)) a vals) (WpFn 𝓤 H C Λ code.function (xl ∷ vint w64 n ∷ yl ys ∷ []) Post)
     walk =
@@ -220,14 +224,15 @@ module _ {M : Type 1} (𝓤 : URA M) (H : Heap 𝓤) (A : Atoms 𝓤) (W : Given
         lft-new ! tt (λ ν. move ! (32 ∷ []) $ split ! $ move ! (1 ∷ []) $ split ! $ move ! (5 ∷ 0 ∷ []) $
         use2 W (later (some (λ (δ : GName). ‵ (MutSlice (named 1) (ν ∷ []) u8 .own (y δ ys) (yl ys ∷ [])) ⊛ ‵ (LentAgain u8 κ′ (ν ∷ []) q′ γ b o δ ys)))) (lends-again u8 κ′ (ν ∷ []) q′ γ b o 𝓤 H A W (named 1) (named 1) ys) $ await ! tt $ pick ! (λ δ. split ! $
         -- [the bytes; the lender's part; true; the list's token; ν's token; what p owns; what the list owns; _13; …]
+        move ! (6 ∷ 3 ∷ []) $ slice-each T.the-row svals (LL.tells T.the-type T′.the-laws) noStation Sized station-sized tt (named 0) κ q ((LL.copy T.the-type T′.the-copy) 𝓤 H A W) x (λ sized. move ! (2 ∷ 3 ∷ 4 ∷ 1 ∷ 5 ∷ 6 ∷ 0 ∷ []) $
         move ! (4 ∷ 2 ∷ []) $ join ! $ move ! (3 ∷ 0 ∷ []) $ join ! $ move ! (4 ∷ []) $ use1 W (‵ Own ⊛ ‵ Own) (shr-slice-copy 𝓤 H A W (named 0) κ T.the-row .twice x (xl ∷ [])) $ split ! $
         nothing ! $ move ! (6 ∷ 0 ∷ []) $ fjoin ! $ move ! (4 ∷ 0 ∷ []) $ fjoin ! $ move ! (1 ∷ 0 ∷ []) $ fjoin ! $ move ! (2 ∷ 0 ∷ []) $
         use2 W (raw (Each 𝓤 H A mem run .pre (to-each (ν ∷ []) fullShare δ ys p v))) (goes-each (ν ∷ []) fullShare δ ys p v (first-held n ss e₁)) $
         -- [what is asked; what the list owns; the lender's part; _13; …]
         calls-at ! fm (Each 𝓤 H A mem run) known-each (to-each (ν ∷ []) fullShare δ ys p v) (and-then ! (load ! (from ! (stop !)) (look ! 27 refl)) (and-then ! (load ! (from ! (stop !)) (look ! 9 refl)) (and-then ! (load ! (from ! (stop !)) (look ! 21 refl)) (no-more !)))) (λ v₂.
         use1 W (later (some (λ (q₁ : Pen). ((‵ (flft κ q) ⊛ ‵ (flft (ν ∷ []) fullShare) ⊛ ‵ ftrue) ⊛ ‵ (P.the-row .own q₁ (v₂ ∷ []))) ⊛ raw (ensured 𝓤 H A each.ended (each.clauses 𝓤 H A mem run) (κ, ((ν ∷ []), tt)) (x, (y δ ys, (p, tt))) tt q₁)))) (id⊢ 𝓤 _) $ await ! tt $ pick ! (λ q₁.
-        split ! $ move ! (1 ∷ []) $ use1 W (some (λ (zs : Lasts each.ended (κ, ((ν ∷ []), tt)) (x, (y δ ys, (p, tt)))). ‵ (lasts each.ended (κ, ((ν ∷ []), tt)) (x, (y δ ys, (p, tt))) zs) ⊛ raw (fact 𝓤 ((drafted ss (p .n) (record { pen = p; out = ys }) ≡ record { pen = q₁; out = zs .1 .0 }) × NameSized ss (p .n))))) (id⊢ 𝓤 _) $ pick ! (λ zs.
-        split ! $ move ! (1 ∷ []) $ heard ! ((drafted ss (p .n) (record { pen = p; out = ys }) ≡ record { pen = q₁; out = zs .1 .0 }) × NameSized ss (p .n)) (λ e₂. fsplit ! $ drop ! $ fsplit ! $ fsplit ! $ move ! (1 ∷ []) $ feqL ! (λ l.
+        split ! $ move ! (1 ∷ []) $ use1 W (some (λ (zs : Lasts each.ended (κ, ((ν ∷ []), tt)) (x, (y δ ys, (p, tt)))). ‵ (lasts each.ended (κ, ((ν ∷ []), tt)) (x, (y δ ys, (p, tt))) zs) ⊛ raw (fact 𝓤 (drafted ss (p .n) (record { pen = p; out = ys }) ≡ record { pen = q₁; out = zs .1 .0 })))) (id⊢ 𝓤 _) $ pick ! (λ zs.
+        split ! $ move ! (1 ∷ []) $ heard ! (drafted ss (p .n) (record { pen = p; out = ys }) ≡ record { pen = q₁; out = zs .1 .0 }) (λ e₂. fsplit ! $ drop ! $ fsplit ! $ fsplit ! $ move ! (1 ∷ []) $ feqL ! (λ l.
         -- [the last list; …; the tokens and the result; what the list owns; the lender's part; _13; …]
         move ! (2 ∷ []) $ split ! $ move ! (1 ∷ []) $ peeks ! P.the-row (Is P.the-row) (shows 𝓤 H A P.the-row) q₁ (v₂ ∷ []) (λ q-is. land ! (from ! (stop !)) (init ! 22 refl (LL.lawful P.the-type P′.the-laws 𝓤 H A W .typed q₁ _ q-is .0)) $
         -- the lifetime is ended, and the bytes come back at that list
@@ -236,7 +241,7 @@ module _ {M : Type 1} (𝓤 : URA M) (H : Heap 𝓤) (A : Atoms 𝓤) (W : Given
         rewrite ! 0 (λ (m : ℕ). ‵ (MutSlice (named 1) κ′ u8 .own (y γ (zs .1 .0)) (sliceVal (b, o) m ∷ []))) (sym l) refl $
         -- [the bytes; their token; true; the list's token; what q₁ owns; …; what the list owns; _13; …]
         keep ! (4 ∷ 3 ∷ 1 ∷ 2 ∷ 0 ∷ 6 ∷ 7 ∷ 8 ∷ 9 ∷ 10 ∷ 11 ∷ 12 ∷ 13 ∷ 14 ∷ 15 ∷ 16 ∷ 17 ∷ 18 ∷ 19 ∷ 20 ∷ 21 ∷ 22 ∷ 23 ∷ 24 ∷ 25 ∷ 26 ∷ 27 ∷ 28 ∷ 29 ∷ 30 ∷ 31 ∷ 32 ∷ 33 ∷ 34 ∷ []) $
-        rest l₀ l₁ l₂ l₃ l₄ l₅ l₆ l₇ l₈ l₉ l₁₀ l₁₁ l₁₂ l₁₃ v p (zs .1 .0) q₁ v₂ q-is l (record { start = e₁; pass = e₂ .0; named = e₂ .1 })))))))))))))))))))))))))))
+        rest l₀ l₁ l₂ l₃ l₄ l₅ l₆ l₇ l₈ l₉ l₁₀ l₁₁ l₁₂ l₁₃ v p (zs .1 .0) q₁ v₂ q-is l (record { start = e₁; pass = e₂; typed = sized }))))))))))))))))))))))))))))
 
 module _ {M : Type 1} (𝓤 : URA M) (H : Heap 𝓤) (A : Atoms 𝓤) (W : Given 𝓤 H A) (mem : Memory → SProp 𝓤) (run : Routine → Fun 𝓤) where
   write-walks : (C : Calls 𝓤 H) (Λ : Loops 𝓤 H) → FmC 𝓤 H (W .laws) C → Triple 𝓤 (C #plan-writing·first-pen) (FirstPen 𝓤 H A mem run) → Triple 𝓤 (C #plan-writing·each) (Each 𝓤 H A mem run) → Triple 𝓤 (C #plan-writing·answer) (Answer 𝓤 H A mem run)
