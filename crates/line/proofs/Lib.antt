@@ -4,3 +4,5 @@ pub mod Order
 pub mod Fits
 pub mod Sends
 pub mod SendFits
+pub mod Unsuited
+pub mod Sums

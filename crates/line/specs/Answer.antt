@@ -1,4 +1,5 @@
 -- What the code's answer to running an event stands for. (document 01, number 16: "a station's heard, lost or sent would pass 4294967295")
+use Prim.Native.Nat.{ℕ}
 use mathlib.Core.Bool.{Bool, cond, _||_}
 use mathlib.Core.List.{List, [], _∷_, _++_}
 use Rattle.refusal.specs.Tests.{passes}
@@ -14,10 +15,13 @@ use Rattle.line.specs.Station.{Outcome}
 abbrev pub countsPass : State → Bool
 countsPass st = passes (st .heard) || (passes (st .lost) || passes (st .sent))
 
--- an outcome, or that its counts pass
+-- an outcome, or the number that refuses it
 pub data Counted : Type 0 where
   within : Outcome → Counted
-  over : Counted
+  refusedBy : ℕ → Counted
+
+abbrev pub over : Counted
+over = refusedBy 16
 
 unfoldable pub counted : Outcome → Counted
 counted o = cond (countsPass (o .after)) over (within o)

@@ -2,7 +2,8 @@
 use Prim.Native.Nat.{ℕ}
 use mathlib.Core.Bool.{Bool, true, false, cond}
 use lib.Dec.{eqb, ltb, leb}
-use Rattle.refusal.specs.Tests.{largest}
+use Rattle.refusal.specs.Numbers.{numberOf}
+use Rattle.refusal.specs.Tests.{largest, Verdict, accepted, refused}
 use Rattle.refusal.specs.declared.Refusal.the-variants as R
 use Rattle.line.specs.declared.Matter.{Matter}
 use Rattle.line.specs.declared.Matter.the-variants.{Read, Frame, Level}
@@ -19,6 +20,11 @@ matterOf n kind value =
     cond (eqb kind 1) (suited (eqb value 0) Read)
     (cond (eqb kind 2) (suited (ltb value n) (Frame value))
     (cond (eqb kind 3) (suited (leb value largest) (Level value)) (Refused R.Matter)))
+
+-- the number that an answer says
+abbrev pub meantSays : Meant → Verdict
+meantSays (Means m) = accepted
+meantSays (Refused e) = refused (numberOf e)
 
 -- 10, of what a kind and a value mean
 abbrev pub unsuited : Meant → Bool

@@ -17,7 +17,7 @@ use Rattle.line.specs.declared.Effect.{Effect}
 use Rattle.line.specs.declared.Ran.{Ran}
 use Rattle.line.specs.declared.Ran.the-variants.{Done}
 use Rattle.line.specs.Station.{Outcome, silent, send, pass}
-use Rattle.line.specs.Answer.{countsPass, Counted, within, over, counted, sendsOf, said}
+use Rattle.line.specs.Answer.{countsPass, Counted, within, refusedBy, over, counted, sendsOf, said}
 use Rattle.line.proofs.Sends.{made}
 
 -- the counts of a state fit 32 bits, or one of them passes
@@ -55,7 +55,7 @@ whole o x = go (countsPass (o .after))
 -- what an answer says, with sends ahead of its own
 abbrev pub ahead : List Event → Counted → Counted
 ahead l (within o) = within (record { after = o .after; sends = l ++ o .sends })
-ahead l over = over
+ahead l (refusedBy n) = refusedBy n
 
 -- an answer for o that has no second send
 abbrev pub One : Ran → Outcome → Type 0

@@ -31,7 +31,7 @@ start c = sized (station c) .before .before .before
 -- the kind and the value mean the matter
 meaning : (c : tie.After-m)
     → matterOf (sized (station c) .before .stations .result) (start c .args .kind) (start c .args .value) ≡ Means (c .m .given .0 .0)
-meaning c = sym (c .before .before .matter-of .ensures) ∙ c .m .given .1
+meaning c = sym (c .before .before .matter-of .ensures .0) ∙ c .m .given .1
 
 -- ---- refusals
 
@@ -53,7 +53,7 @@ returns-3 c =
     let k = sized i in
     post-refused _
     (matter-unsuited (k .before .stations .ensures) (k .capacity .ensures) _ _ _ _ (i .if2 .left) _
-    (sym (c .before .before .matter-of .ensures) ∙ c .enum-told .given .1))
+    (sym (c .before .before .matter-of .ensures .0) ∙ c .enum-told .given .1))
 
 returns-4 : tie.Need-returns-4
 returns-4 c =
