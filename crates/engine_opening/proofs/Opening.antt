@@ -162,7 +162,7 @@ module _ {plan : List ℕ} {n c width : ℕ} {xs ys zs : List ℕ} (e : judging 
 -- ---- the call
 
 -- what an answer says that is the first of the cases
-module _ {plan : List ℕ} {width capacity : ℕ} {xs : List ℕ} {r : OpenAnswer} (e : r ≡ opening (judging plan) width capacity (length xs)) where
+module _ (plan : List ℕ) (width capacity : ℕ) (xs : List ℕ) {r : OpenAnswer} (e : r ≡ opening (judging plan) width capacity (length xs)) where
   first-is : r ≡ firstOf Unopened (openCases plan width capacity (length xs)) Done
   first-is = e ∙ opening-is plan width capacity (length xs)
 
@@ -175,10 +175,10 @@ module _ {plan : List ℕ} {width capacity : ℕ} {xs : List ℕ} {r : OpenAnswe
 -- a refusal changes nothing
 pub unopened : {plan : List ℕ} {width capacity : ℕ} {xs : List ℕ} (r : Refusal) → Unopened r ≡ opening (judging plan) width capacity (length xs)
     → Opens plan width capacity xs (Unopened r) xs
-unopened r e = record {
-  answer = first-is e;
-  number = number-is e;
-  station = station-is e;
+unopened {plan} {width} {capacity} {xs} r e = record {
+  answer = first-is plan width capacity xs e;
+  number = number-is plan width capacity xs e;
+  station = station-is plan width capacity xs e;
   refusal = λ f q. refl;
   opens = λ q. let z : _≡_ {A = ℕ} 0 1 = cc in absurd (omega arith);
   width-is = λ q. let z : _≡_ {A = ℕ} 0 1 = cc in absurd (omega arith);
@@ -196,9 +196,9 @@ opened-call {plan} {n} {c} {width} {xs} {y₀} {y₁} {y₂} {y₃} {y₄} {zs} 
     let C′ = subst (λ (us : List ℕ). ClearsEvents n c width us zs) q C in
     let d : Done ≡ opening (judging plan) width c (length xs) = done plan e width c (length xs) g h j k l in
     record {
-      answer = first-is d;
-      number = number-is d;
-      station = station-is d;
+      answer = first-is plan width c xs d;
+      number = number-is plan width c xs d;
+      station = station-is plan width c xs d;
       refusal = λ r z. let z : _≡_ {A = ℕ} 0 1 = cc in absurd (omega arith);
       opens = λ _. opens e g h j k l B F′ C′;
       width-is = λ _. wide-as e g h j k l B F′ C′;
