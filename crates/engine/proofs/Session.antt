@@ -32,12 +32,12 @@ call-more b t = record { engine = t .engine; calls = D.next (b .answers) (t .cal
 
 pub chain-calls : {p : Plan} {e : Engine} {xs ys : List ℕ} {ms : List Made} → Represents p e xs → Chain xs ms ys → Ends p e ms ys
 chain-calls {p} {e} r end = record { engine = e; calls = D.end; stands = r }
-chain-calls {p} {e} r (post a c) = let b = a .answer p e r in call-more b (chain-calls (b .represents) c)
-chain-calls {p} {e} r (retract a c) = let b = a .answer p e r in call-more b (chain-calls (b .represents) c)
-chain-calls {p} {e} r (run-station a c) = let b = a .answer p e r in call-more b (chain-calls (b .represents) c)
-chain-calls {p} {e} r (run-lowest a c) = let b = a .answer p e r in call-more b (chain-calls (b .represents) c)
-chain-calls {p} {e} r (commit a c) = let b = a .answered .answer p e r in call-more b (chain-calls (b .represents) c)
-chain-calls {p} {e} r (record-of a c) = let b = a .answer p e r in call-more b (chain-calls (b .represents) c)
+chain-calls {p} {e} r (post _ a c) = let b = a .answer p e r in call-more b (chain-calls (b .represents) c)
+chain-calls {p} {e} r (retract _ a c) = let b = a .answer p e r in call-more b (chain-calls (b .represents) c)
+chain-calls {p} {e} r (run-station _ a c) = let b = a .answer p e r in call-more b (chain-calls (b .represents) c)
+chain-calls {p} {e} r (run-lowest _ a c) = let b = a .answer p e r in call-more b (chain-calls (b .represents) c)
+chain-calls {p} {e} r (commit _ a c) = let b = a .answered .answer p e r in call-more b (chain-calls (b .represents) c)
+chain-calls {p} {e} r (record-of _ a c) = let b = a .answer p e r in call-more b (chain-calls (b .represents) c)
 
 -- ---- a record
 

@@ -21,24 +21,24 @@ use Rattle.engine_promises.specs.Represents.{lineOf, Represents}
 use Rattle.engine_promises.specs.Answers.{openSays, postSaid, retractSaid, runSaid, commitSaid, recordSaid}
 use Rattle.engine_promises.specs.Promises.{openCases, Opens, Answered, Commits}
 
-abbrev pub answered : Call → Answer → Made
-answered call answer = record { asked = call; said = answer }
+abbrev pub made : Call → Answer → Made
+made call answer = record { asked = call; said = answer }
 
 -- the calls, refused ones among them, take the buffer from xs to ys: of each call what its contract ensures
 pub data Chain : List ℕ → List Made → List ℕ → Type 0 where
   end : {xs : List ℕ} → Chain xs [] xs
-  post : {xs ys zs : List ℕ} {ms : List Made} {s t kind value : ℕ} {r : PostAnswer} → Answered (Post s t kind value) (postSaid r) xs ys → Chain ys ms zs
-      → Chain xs (answered (Post s t kind value) (postSaid r) ∷ ms) zs
-  retract : {xs ys zs : List ℕ} {ms : List Made} {n : ℕ} {r : RetractAnswer} → Answered (Retract n) (retractSaid r) xs ys → Chain ys ms zs
-      → Chain xs (answered (Retract n) (retractSaid r) ∷ ms) zs
-  run-station : {xs ys zs : List ℕ} {ms : List Made} {s : ℕ} {r : RunAnswer} → Answered (RunStation s) (runSaid r) xs ys → Chain ys ms zs
-      → Chain xs (answered (RunStation s) (runSaid r) ∷ ms) zs
-  run-lowest : {xs ys zs : List ℕ} {ms : List Made} {r : RunAnswer} → Answered RunLowest (runSaid r) xs ys → Chain ys ms zs
-      → Chain xs (answered RunLowest (runSaid r) ∷ ms) zs
-  commit : {xs ys zs output left : List ℕ} {ms : List Made} {c : ℕ} {r : CommitAnswer} → Commits (Commit c) (commitSaid r) xs ys output left → Chain ys ms zs
-      → Chain xs (answered (Commit c output) (commitSaid r left) ∷ ms) zs
-  record-of : {xs zs : List ℕ} {ms : List Made} {s : ℕ} {r : RecordAnswer} → Answered (Record s) (recordSaid r) xs xs → Chain xs ms zs
-      → Chain xs (answered (Record s) (recordSaid r) ∷ ms) zs
+  post : {xs ys zs : List ℕ} {ms : List Made} {s t kind value : ℕ} (r : PostAnswer) → Answered (Post s t kind value) (postSaid r) xs ys → Chain ys ms zs
+      → Chain xs (made (Post s t kind value) (postSaid r) ∷ ms) zs
+  retract : {xs ys zs : List ℕ} {ms : List Made} {n : ℕ} (r : RetractAnswer) → Answered (Retract n) (retractSaid r) xs ys → Chain ys ms zs
+      → Chain xs (made (Retract n) (retractSaid r) ∷ ms) zs
+  run-station : {xs ys zs : List ℕ} {ms : List Made} {s : ℕ} (r : RunAnswer) → Answered (RunStation s) (runSaid r) xs ys → Chain ys ms zs
+      → Chain xs (made (RunStation s) (runSaid r) ∷ ms) zs
+  run-lowest : {xs ys zs : List ℕ} {ms : List Made} (r : RunAnswer) → Answered RunLowest (runSaid r) xs ys → Chain ys ms zs
+      → Chain xs (made RunLowest (runSaid r) ∷ ms) zs
+  commit : {xs ys zs output left : List ℕ} {ms : List Made} {c : ℕ} (r : CommitAnswer) → Commits (Commit c) (commitSaid r) xs ys output left → Chain ys ms zs
+      → Chain xs (made (Commit c output) (commitSaid r left) ∷ ms) zs
+  record-of : {xs zs : List ℕ} {ms : List Made} {s : ℕ} (r : RecordAnswer) → Answered (Record s) (recordSaid r) xs xs → Chain xs ms zs
+      → Chain xs (made (Record s) (recordSaid r) ∷ ms) zs
 
 -- what is claimed of a list of calls after an accepted opening, which leave the buffer ys
 pub record Whole (plan : List ℕ) (capacity : ℕ) (ms : List Made) (ys : List ℕ) : Type 0 where
