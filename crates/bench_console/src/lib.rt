@@ -1,132 +1,40 @@
-// The bench: a plan and command lines in, answers out.
+// The bench: a plan and command lines in, answers out. What is answered is crate bench_answers; here are input, output and the loop.
 
-ghost use mathlib.Core.Path.{_≡_};
+ghost use mathlib.Core.List.{List, [], _∷_, _++_};
+ghost use Prim.Native.Nat.{ℕ, _≤_};
+ghost use lib.ListN.{length, take as List·take};
 ghost use Rattle.io.specs.Counts.{Counts};
-ghost use Rattle.bench_console.specs.Shown.{noShown, postShown, retractShown, runShown};
-use bench_command::Command;
-use bench_command::Output;
-use bench_command::Parsed;
-use engine::CommitAnswer;
-use engine::OpenAnswer;
-use engine::PostAnswer;
-use engine::RetractAnswer;
-use engine::RunAnswer;
+ghost use Rattle.bench_console.specs.Input.{Printed, Console, ReadOn, Within, AnswersAll};
 use libc::STDOUT_FILENO;
-use refusal::Refusal;
 
-// ---- the line of each answer
-
-fn refused(e: Refusal) -> Output
-    ensures { λ r. ⌜ r ≡ noShown e ⌝ }
-{
-    Output::No {
-        number: refusal::number(e),
-    }
-}
-
-fn posted(a: PostAnswer) -> Output
-    ensures { λ r. ⌜ r ≡ postShown a ⌝ }
-{
-    match a {
-        PostAnswer::Done { number, undone } => Output::Post { number, undone },
-        PostAnswer::Refused(e) => refused(e),
-    }
-}
-
-fn retracted(a: RetractAnswer) -> Output
-    ensures { λ r. ⌜ r ≡ retractShown a ⌝ }
-{
-    match a {
-        RetractAnswer::Done { undone } => Output::Retract { undone },
-        RetractAnswer::Refused(e) => refused(e),
-    }
-}
-
-fn ran(a: RunAnswer) -> Output
-    ensures { λ r. ⌜ r ≡ runShown a ⌝ }
-{
-    match a {
-        RunAnswer::Done { station, undone } => Output::Run { station, undone },
-        RunAnswer::Refused(e) => refused(e),
-    }
-}
-
-// The line of n bytes at the front of a buffer.
+// The first n bytes of a text are written to the standard output. This is the one place that writes. The kit's contracts say nothing of what reaches a
+// file, so none can be stated here: that these are the right bytes is what the calls that made the text promise.
 fn put(text: &[u8], n: usize) {
     if n <= text.len() {
         io::write_all(STDOUT_FILENO, &text[..n]);
     }
 }
 
-fn say(o: Output) {
-    let mut text = [0u8; 96];
-    let n = bench_printing::print(&mut text, o);
-    put(&text, n);
-}
-
-// Entry k of a commit's output.
-fn say_entry(out: &[u8], k: u16) {
-    let e = entry::read(out, 24 * k as u32);
-    let mut text = [0u8; 96];
-    let n = bench_printing::print_entry(&mut text, e);
-    put(&text, n);
-}
-
-// The entries, then their count.
-fn committed(out: &[u8], count: u64) {
-    let mut k: u16 = 0;
-    while (k as u64) < count {
-        if 64 <= k {
-            break;
-        }
-        say_entry(out, k);
-        k += 1;
-    }
-    say(Output::Commit { count });
-}
-
-fn commit(b: &mut [u8], time: u64) {
-    let mut out = [0u8; 1536];
-    match engine::commit(b, time, &mut out) {
-        CommitAnswer::Done { count } => committed(&out, count),
-        CommitAnswer::Refused(e) => say(refused(e)),
-    }
-}
-
 // ---- command lines
 
-fn obey(b: &mut [u8], c: Command) {
-    match c {
-        Command::Post {
-            station,
-            time,
-            kind,
-            value,
-        } => say(posted(engine::post(b, station, time, kind, value))),
-        Command::Retract { number } => say(retracted(engine::retract(b, number))),
-        Command::Run => say(ran(engine::run_lowest(b))),
-        Command::RunStation { station } => say(ran(engine::run_station(b, station))),
-        Command::Commit { time } => commit(b, time),
-    }
+// The line of so many bytes at the front of the line buffer is answered.
+fn answer(b: &mut [u8], line: &[u8], len: usize)
+    requires { ⌜ len ≤ length (now line) ⌝ }
+    ensures { λ _. ⌜ Printed (List·take len (now (line .entry))) (now (b .entry)) (now (b .exit)) ⌝ }
+{
+    let mut text = [0u8; 6240];
+    let n = bench_answers::reply(b, &line[..len], &mut text);
+    put(&text, n);
 }
 
-// What a line of so many bytes says; more than the buffer has are no command.
-fn parse(line: &[u8], len: usize) -> Parsed {
-    if line.len() < len {
-        return Parsed::Refused(Refusal::Command);
-    }
-    bench_parsing::parse(&line[..len])
-}
-
-fn answer(b: &mut [u8], line: &[u8], len: usize) {
-    match parse(line, len) {
-        Parsed::Is(c) => obey(b, c),
-        Parsed::Refused(e) => say(refused(e)),
-    }
-}
-
-// One byte of input: it ends the line, or is put after it. Answers the line's length; one more than the buffer's where the line is longer.
-fn take(b: &mut [u8], line: &mut [u8], len: usize, byte: u8) -> usize {
+// One byte of input: it ends the line, or is put after it. Answers the line's length. Of a line that is longer than the buffer the front is kept: it is
+// longer than any command, and so is the line.
+fn take(b: &mut [u8], line: &mut [u8], len: usize, byte: u8) -> usize
+    requires { ⌜ (len ≤ length (now line)) × (128 ≤ length (now line)) ⌝ }
+    ensures within { λ r. ⌜ r ≤ length (now (line .exit)) ⌝ }
+    ensures fed { λ r. ⌜ ((xs input : List ℕ) → Console xs input (now (line .entry)) len (now (b .entry))
+        → Console xs (input ++ byte ∷ []) (now (line .exit)) r (now (b .exit))) ⌝ }
+{
     if byte == 10 {
         answer(b, line, len);
         return 0;
@@ -135,10 +43,15 @@ fn take(b: &mut [u8], line: &mut [u8], len: usize, byte: u8) -> usize {
         line[len] = byte;
         return len + 1;
     }
-    line.len() + 1
+    len
 }
 
-fn take_all(b: &mut [u8], line: &mut [u8], len: usize, input: &[u8]) -> usize {
+fn take_all(b: &mut [u8], line: &mut [u8], len: usize, input: &[u8]) -> usize
+    requires { ⌜ (len ≤ length (now line)) × (128 ≤ length (now line)) ⌝ }
+    ensures within { λ r. ⌜ r ≤ length (now (line .exit)) ⌝ }
+    ensures fed { λ r. ⌜ ((xs before : List ℕ) → Console xs before (now (line .entry)) len (now (b .entry))
+        → Console xs (before ++ now (input .entry)) (now (line .exit)) r (now (b .exit))) ⌝ }
+{
     let mut i = 0;
     let mut at = len;
     while i < input.len() {
@@ -155,7 +68,12 @@ enum Read {
 }
 
 // A read of input, and its lines. At the end the line that has not ended is one too.
-fn read_some(b: &mut [u8], line: &mut [u8], len: usize) -> Read {
+fn read_some(b: &mut [u8], line: &mut [u8], len: usize) -> Read
+    requires { ⌜ (len ≤ length (now line)) × (128 ≤ length (now line)) ⌝ }
+    ensures within { λ r. ⌜ Within r (now (line .exit)) ⌝ }
+    ensures fed { λ r. ⌜ ((xs input : List ℕ) → Console xs input (now (line .entry)) len (now (b .entry))
+        → ReadOn xs input (now (line .exit)) r (now (b .exit))) ⌝ }
+{
     let mut input = [0u8; 4096];
     let n = io::count(libc::read(0, &mut input), &input);
     if n == 0 {
@@ -168,7 +86,9 @@ fn read_some(b: &mut [u8], line: &mut [u8], len: usize) -> Read {
 }
 
 // A proved loop has to end, and nothing says that the input does: so it counts its turns down, from a number that no run uses up.
-fn read_all(b: &mut [u8]) {
+fn read_all(b: &mut [u8])
+    ensures { λ _. ⌜ AnswersAll (now (b .entry)) (now (b .exit)) ⌝ }
+{
     let mut space = [0u8; 128];
     let line: &mut [u8] = &mut space;
     let mut len = 0;
@@ -195,13 +115,16 @@ fn read_plan(path: &[u8], plan: &mut [u8]) -> usize
     io::read_full(fd, plan)
 }
 
-// The plan in that file is opened, and the command lines of the standard input are answered.
+// The plan in that file is opened, and the command lines of the standard input are answered. It lends nothing to its caller and returns nothing, so its
+// contract has nothing to speak of: what it does is in the contracts of `open` and `read_all`.
 pub fn serve(path: &[u8]) {
     let mut plan = [0u8; 16384];
     let n = read_plan(path, &mut plan);
     let mut b = [0u8; 57344];
-    match engine::open(&plan[..n], 64, 64, &mut b) {
-        OpenAnswer::Done => read_all(&mut b),
-        OpenAnswer::Refused(e) => say(refused(e)),
+    let mut text = [0u8; 6240];
+    let k = bench_answers::open(&plan[..n], &mut b, &mut text);
+    put(&text, k);
+    if k == 0 {
+        read_all(&mut b);
     }
 }

@@ -5,7 +5,7 @@ use Prim.Native.Nat.{ℕ, suc, _+_, _≤_, _<_}
 use native.Mathlib.Omega.{arith}
 use lib.ListN.{length, set, take, drop, length-append, length-set, take-append-drop}
 use lib.Seq.{length-take-le, take-at, drop-at, drop-drop, set-split}
-use Rattle.bench_printing.specs.Printing.{Appends, Fills}
+use Rattle.bench_printing.specs.Printing.{Appends}
 
 pub nothing : (at : ℕ) (xs : List ℕ) → Appends [] at xs at xs
 nothing at xs =
@@ -64,14 +64,3 @@ module _ {a b : List ℕ} {at : ℕ} {xs : List ℕ} {r : ℕ} {ys : List ℕ} {
           ∙ ap (λ (l : List ℕ). take at xs ++ a ++ (b ++ l)) rest
           ∙ append-assoc (take at xs) a (b ++ drop (at + length (a ++ b)) xs)
           ∙ ap (λ (l : List ℕ). take at xs ++ l) (sym (append-assoc a b (drop (at + length (a ++ b)) xs)))
-
--- a line from the front of a buffer
-pub fills : (ws xs : List ℕ) (r : ℕ) (ys : List ℕ) → Appends ws 0 xs r ys → Fills ws xs r ys
-fills ws xs r ys p =
-    record {
-      written = λ room. p .written (omega arith) ∙ ap (λ (n : ℕ). ws ++ drop n xs) (let z : 0 + length ws ≡ length ws = omega arith in z);
-      ends = λ room. p .ends (omega arith) ∙ omega arith;
-    }
-
-pub line-as : {a b xs : List ℕ} {r : ℕ} {ys : List ℕ} → a ≡ b → Fills a xs r ys → Fills b xs r ys
-line-as {a} {b} {xs} {r} {ys} e p = subst (λ (t : List ℕ). Fills t xs r ys) e p

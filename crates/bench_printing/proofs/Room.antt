@@ -22,7 +22,7 @@ use Rattle.bench_command.specs.declared.Output.{Output}
 use Rattle.bench_command.specs.declared.Output.the-variants as Out
 use Rattle.bench_command.specs.Decimal.{decimal, Fits}
 use Rattle.bench_command.specs.Lines.{spaced, outputOf, entryLine}
-use Rattle.bench_printing.specs.Printing.{Prints, Fills}
+use Rattle.bench_printing.specs.Printing.{Prints, Appends}
 use Rattle.bench_command.proofs.Reading.{length-one, length-more}
 use Rattle.bench_printing.proofs.Backward.{at-most-20}
 
@@ -104,18 +104,30 @@ entry-room x vs p =
 -- ---- the two cases of a buffer
 
 -- a line that has room is printed
-pub printed : (ws xs : List ℕ) (r : ℕ) (ys : List ℕ) → length ws ≤ 96 → 96 ≤ length xs → Fills ws xs r ys → Prints ws xs r ys
-printed ws xs r ys room long p =
+pub printed : (ws : List ℕ) (at : ℕ) (xs : List ℕ) (r : ℕ) (ys : List ℕ) → length ws ≤ 96 → at + 96 ≤ length xs → Appends ws at xs r ys
+    → Prints ws at xs r ys
+printed ws at xs r ys room long p =
     record {
       short = λ h. absurd (omega (arith, h, long));
       written = λ h. p .written (omega (arith, room, h));
       ends = λ h. p .ends (omega (arith, room, h));
+      most = omega (arith, p .ends (omega (arith, room, long)), room);
     }
 
-pub too-short : (ws xs : List ℕ) → length xs < 96 → Prints ws xs 0 xs
-too-short ws xs h =
+pub too-short : (ws : List ℕ) (at : ℕ) (xs : List ℕ) → length xs < at + 96 → Prints ws at xs at xs
+too-short ws at xs h =
     record {
       short = λ l. (refl, refl);
       written = λ l. absurd (omega (arith, h, l));
       ends = λ l. absurd (omega (arith, h, l));
+      most = omega arith;
     }
+
+-- ---- a line that was printed with room: it is one of 96 bytes at most, and is appended
+
+pub line-most : {ws : List ℕ} {at : ℕ} {xs : List ℕ} {r : ℕ} {ys : List ℕ} → at + 96 ≤ length xs → Prints ws at xs r ys → length ws ≤ 96
+line-most room p = omega (arith, p .ends room, p .most)
+
+pub appended : {ws : List ℕ} {at : ℕ} {xs : List ℕ} {r : ℕ} {ys : List ℕ} → at + 96 ≤ length xs → length ys ≡ length xs → Prints ws at xs r ys
+    → Appends ws at xs r ys
+appended room size p = record { size = size; written = λ h. p .written room; ends = λ h. p .ends room }

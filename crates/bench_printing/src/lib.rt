@@ -5,7 +5,7 @@ ghost use mathlib.Core.List.{[], _∷_, _++_};
 ghost use lib.ListN.{length};
 ghost use Rattle.bench_command.specs.Decimal.{decimal};
 ghost use Rattle.bench_command.specs.Lines.{spaced, outputOf, entryLine};
-ghost use Rattle.bench_printing.specs.Printing.{Appends, Prints, Fills};
+ghost use Rattle.bench_printing.specs.Printing.{Appends, Prints};
 use bench_command::Output;
 use line::Event;
 
@@ -76,54 +76,57 @@ fn append_after(out: &mut [u8], at: usize, v: u64) -> usize
     append_number(out, a, v)
 }
 
-// The line of a word and a number, at the front of a buffer; answers its length.
-fn print_one(out: &mut [u8], word: &[u8], v: u64) -> usize
-    ensures { λ r. ⌜ Fills (spaced (now (word .entry)) (v ∷ []) ++ 10 ∷ []) (now (out .entry)) r (now (out .exit)) ⌝ }
+// The line of a word and a number.
+fn print_one(out: &mut [u8], at: usize, word: &[u8], v: u64) -> usize
+    ensures { λ r. ⌜ Appends (spaced (now (word .entry)) (v ∷ []) ++ 10 ∷ []) at (now (out .entry)) r (now (out .exit)) ⌝ }
 {
-    let a = append_word(out, 0, word);
+    let a = append_word(out, at, word);
     let c = append_after(out, a, v);
     append_byte(out, c, 10)
 }
 
 // The line of a word and two numbers.
-fn print_two(out: &mut [u8], word: &[u8], v: u64, w: u64) -> usize
-    ensures { λ r. ⌜ Fills (spaced (now (word .entry)) (v ∷ w ∷ []) ++ 10 ∷ []) (now (out .entry)) r (now (out .exit)) ⌝ }
+fn print_two(out: &mut [u8], at: usize, word: &[u8], v: u64, w: u64) -> usize
+    ensures { λ r. ⌜ Appends (spaced (now (word .entry)) (v ∷ w ∷ []) ++ 10 ∷ []) at (now (out .entry)) r (now (out .exit)) ⌝ }
 {
-    let a = append_word(out, 0, word);
+    let a = append_word(out, at, word);
     let c = append_after(out, a, v);
     let d = append_after(out, c, w);
     append_byte(out, d, 10)
 }
 
 // The line of an answer.
-fn fill(out: &mut [u8], o: Output) -> usize
-    ensures { λ r. ⌜ Fills (outputOf o) (now (out .entry)) r (now (out .exit)) ⌝ }
+fn fill(out: &mut [u8], at: usize, o: Output) -> usize
+    ensures { λ r. ⌜ Appends (outputOf o) at (now (out .entry)) r (now (out .exit)) ⌝ }
 {
     match o {
-        Output::Post { number, undone } => print_two(out, b"post", number, undone),
-        Output::Retract { undone } => print_one(out, b"retract", undone),
-        Output::Run { station, undone } => print_two(out, b"run", station, undone),
-        Output::Commit { count } => print_one(out, b"commit", count),
-        Output::No { number } => print_one(out, b"no", number),
+        Output::Post { number, undone } => print_two(out, at, b"post", number, undone),
+        Output::Retract { undone } => print_one(out, at, b"retract", undone),
+        Output::Run { station, undone } => print_two(out, at, b"run", station, undone),
+        Output::Commit { count } => print_one(out, at, b"commit", count),
+        Output::No { number } => print_one(out, at, b"no", number),
     }
 }
 
-// The line of an answer, at the front of a buffer of 96 bytes or more; answers its length.
-pub fn print(out: &mut [u8], o: Output) -> usize
-    ensures { λ r. ⌜ Prints (outputOf o) (now (out .entry)) r (now (out .exit)) ⌝ }
+// The line of an answer, at a place of a buffer that has 96 bytes or more from there on; answers the place after it.
+pub fn print(out: &mut [u8], at: usize, o: Output) -> usize
+    ensures { λ r. ⌜ Prints (outputOf o) at (now (out .entry)) r (now (out .exit)) ⌝ }
 {
     if out.len() < ROOM {
-        return 0;
+        return at;
     }
-    fill(out, o)
+    if out.len() - ROOM < at {
+        return at;
+    }
+    fill(out, at, o)
 }
 
 // The line of a log's entry: time, target, kind, source, number, value.
-fn fill_entry(out: &mut [u8], e: Event) -> usize
-    ensures { λ r. ⌜ Fills (entryLine e) (now (out .entry)) r (now (out .exit)) ⌝ }
+fn fill_entry(out: &mut [u8], at: usize, e: Event) -> usize
+    ensures { λ r. ⌜ Appends (entryLine e) at (now (out .entry)) r (now (out .exit)) ⌝ }
 {
     let m = e.matter;
-    let a = append_number(out, 0, e.time);
+    let a = append_number(out, at, e.time);
     let c = append_after(out, a, e.target as u64);
     let d = append_after(out, c, line::kind_of(m) as u64);
     let f = append_after(out, d, e.source as u64);
@@ -133,11 +136,14 @@ fn fill_entry(out: &mut [u8], e: Event) -> usize
 }
 
 // The line of a log's entry, into a buffer as for print.
-pub fn print_entry(out: &mut [u8], e: Event) -> usize
-    ensures { λ r. ⌜ Prints (entryLine e) (now (out .entry)) r (now (out .exit)) ⌝ }
+pub fn print_entry(out: &mut [u8], at: usize, e: Event) -> usize
+    ensures { λ r. ⌜ Prints (entryLine e) at (now (out .entry)) r (now (out .exit)) ⌝ }
 {
     if out.len() < ROOM {
-        return 0;
+        return at;
     }
-    fill_entry(out, e)
+    if out.len() - ROOM < at {
+        return at;
+    }
+    fill_entry(out, at, e)
 }

@@ -5,7 +5,7 @@ use mathlib.Core.List.{_∷_}
 use Prim.Native.Nat.{ℕ}
 use Rattle.bench_command.specs.Decimal.{decimal}
 use Rattle.bench_command.specs.Lines.{spaced, entryLine}
-use Rattle.bench_printing.proofs.Appending.{then, read-as, fills}
+use Rattle.bench_printing.proofs.Appending.{then, read-as}
 use Rattle.bench_printing.proofs.fill_entry.Statement.{statement}
 use Rattle.bench_printing.proofs.fill_entry.Tie as tie
 
@@ -27,7 +27,7 @@ returns c =
     let kind = then target (read-as (ap (λ (n : ℕ). 32 ∷ decimal n) (k .before .kind-of .ensures)) (k .append-after2 .ensures)) in
     let number = then (then kind (s .append-after3 .ensures)) (n .append-after4 .ensures) in
     let value = then number (read-as (ap (λ (n : ℕ). 32 ∷ decimal n) (v .before .value-of .ensures)) (v .append-after5 .ensures)) in
-    fills _ _ _ _ (then value (c .before .before .append-byte .ensures))
+    then value (c .before .before .append-byte .ensures)
 
 pub fill-entry-spec : {M : Type 1} → statement M
 fill-entry-spec =

@@ -6,10 +6,14 @@ use Rattle.bench_printing.proofs.print.Statement.{statement}
 use Rattle.bench_printing.proofs.print.Tie as tie
 
 returns : tie.Need-returns
-returns c = too-short _ _ (omega (arith, c .if1 .taken))
+returns c = too-short _ _ _ (omega (arith, c .if1 .taken))
 
 returns-2 : tie.Need-returns-2
-returns-2 c = printed _ _ _ _ (output-room _) (omega (arith, c .before .before .before .before .if1 .left)) (c .before .before .fill .ensures)
+returns-2 c = too-short _ _ _ (omega (arith, c .before .if1 .left, c .if2 .taken))
+
+returns-3 : tie.Need-returns-3
+returns-3 c =
+    printed _ _ _ _ _ (output-room _) (omega (arith, c .before .before .before .before .before .if1 .left, c .before .before .before .before .if2 .left)) (c .before .before .fill .ensures)
 
 pub print-spec : {M : Type 1} → statement M
-print-spec = tie.close (tie.spec returns (λ c κs. search needs) (λ c. search needs) returns-2)
+print-spec = tie.close (tie.spec returns (λ c. search needs) returns-2 (λ c κs. search needs) (λ c. search needs) returns-3)

@@ -1,7 +1,7 @@
 -- The parts of the line, one after the other.
 use borrow.Author.Needs.{needs}
 use Rattle.bench_command.specs.Lines.{spaced}
-use Rattle.bench_printing.proofs.Appending.{then, fills}
+use Rattle.bench_printing.proofs.Appending.{then}
 use Rattle.bench_printing.proofs.print_two.Statement.{statement}
 use Rattle.bench_printing.proofs.print_two.Tie as tie
 
@@ -10,8 +10,8 @@ unfolding spaced
 returns c =
     let b = c .before .before .before .before .before .before in
     let a = b .before .before .before .before in
-    fills _ _ _ _ (then (then (then (a .before .before .before .before .append-word .ensures) (a .append-after .ensures)) (b .append-after2 .ensures))
-    (c .before .before .append-byte .ensures))
+    then (then (then (a .before .before .before .before .append-word .ensures) (a .append-after .ensures)) (b .append-after2 .ensures))
+    (c .before .before .append-byte .ensures)
 
 pub print-two-spec : {M : Type 1} → statement M
 print-two-spec =
