@@ -36,7 +36,7 @@ fn count_before(b: &[u8], n: u16, c: u16, time: u64) -> u16
     ensures few { λ r. ⌜ r ≤ c ⌝ }
     ensures counts { λ r. ⌜ Counts n c (now (b .entry)) time r ⌝ }
 {
-    let mut x = engine_index::next_logged(b, n, c, 0);
+    let mut x = engine_ends::first_logged(b, n, c);
     let mut count: u16 = 0;
     while count < c {
         let i = engine_index::slot_in(b, n, c, x);
@@ -59,7 +59,7 @@ fn write_first(b: &mut [u8], n: u16, c: u16, count: u16, out: &mut [u8])
 {
     let mut k: u16 = 0;
     while k < count {
-        let x = engine_index::next_logged(b, n, c, 0);
+        let x = engine_ends::first_logged(b, n, c);
         let i = engine_index::slot_in(b, n, c, x);
         if c <= i {
             return;
@@ -133,8 +133,8 @@ pub fn record(b: &[u8], station: u64) -> RecordAnswer
         return RecordAnswer::Refused(Refusal::Station);
     }
     let s = station as u16;
-    let x = engine_index::next(b, n, c, n + s);
-    if x == n + s {
+    let x = engine_ends::first_run(b, n, c, s);
+    if x == 0 {
         return RecordAnswer::Done(engine_rows::state(b, n, s));
     }
     RecordAnswer::Done(engine_events::saved(b, n, x))

@@ -1,7 +1,7 @@
 -- What the ends are where the bytes stand for cells.
 use mathlib.Core.Path.{_≡_, _∙_, subst}
 use mathlib.Core.List.{List, [], _∷_, _++_}
-use Prim.Native.Nat.{ℕ, _<_}
+use Prim.Native.Nat.{ℕ, _≤_, _<_}
 use native.Mathlib.Omega.{arith}
 use borrow.Author.Tests.{le-leb, lt-ltb, eq-eqb, ne-eqb}
 use Rattle.line.specs.declared.State.{State}
@@ -79,6 +79,11 @@ module _ {n c : ℕ} {xs : List ℕ} {cells : List Cell} where
       rw (le-leb n 256 (S .stations), f .0, ne-eqb x (freeRing n) (λ q. omega (arith, f .1)))
 
 -- ---- the log
+
+-- as it is read where the numbers are in range
+pub logged-reads : (n c x : ℕ) (xs : List ℕ) → x ≡ firstLogged xs n c → n ≤ 256 → c ≤ 4096 → x ≡ nextOf xs (logAt n c) 0
+unfolding firstLogged
+logged-reads n c x xs e l k = rw (le-leb n 256 l, le-leb c 4096 k) at e
 
 in-range : {n c : ℕ} {xs : List ℕ} {cells : List Cell} {free : List ℕ} → Stands n c xs cells free → firstLogged xs n c ≡ nextOf xs (logAt n c) 0
 unfolding firstLogged

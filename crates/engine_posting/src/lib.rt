@@ -21,10 +21,9 @@ use refusal::Refusal;
 
 // Is no place free?
 fn full(b: &[u8], n: u16, c: u16) -> bool
-    requires { ⌜ n ≤ 256 ⌝ }
     ensures { λ r. ⌜ Full n c (now (b .entry)) r ⌝ }
 {
-    engine_index::next(b, n, c, 2 * n) == 2 * n
+    engine_ends::first_free(b, n, c) == 0
 }
 
 // What judging a post finds: its event, with the line's numbers of stations and slots, or the refusal.
@@ -118,7 +117,7 @@ fn find_post(b: &[u8], n: u16, c: u16, number: u64) -> u16
     let mut i: u16 = 0;
     while i < c {
         if is_post(b, n, i, number) {
-            return 2 * n + 1 + i;
+            return engine_index::node_of(n, i);
         }
         i += 1;
     }

@@ -1,4 +1,4 @@
--- The link after a station's first sentinel leads to its least unrun event, or to the sentinel where it has none.
+-- A station's first unrun node is that of its least unrun event; 0 where it has none.
 use mathlib.Core.Path.{_≡_, sym, ap, _∙_, subst}
 use mathlib.Core.Logic.{_⊎_, inl, inr}
 use mathlib.Core.List.{List, _∷_, _++_}
@@ -8,12 +8,12 @@ use Rattle.line.specs.declared.Event.{Event}
 use Rattle.line.specs.Station.{Plan}
 use Rattle.rules.specs.Held.{unrun, event, Queue, leastUnrun}
 use Rattle.rules.specs.Held.Found.{none as nothing, some as least-is}
-use Rattle.rings.specs.Table.{nextOf}
 use Rattle.engine_rows.specs.Layout.{slotRow}
 use Rattle.entry.specs.Entry.{eventAt}
-use Rattle.engine_index.specs.Layout.{linksAt, slotOf}
+use Rattle.engine_index.specs.Layout.{slotOf}
 use Rattle.engine_index.specs.Represents.{Cell, cell, NoneIn}
-use Rattle.engine_index.proofs.Rings.RingEnds.{next-none, first-unrun}
+use Rattle.engine_ends.specs.Ends.{firstUnrun}
+use Rattle.engine_ends.proofs.Ends.{first-unrun-none, first-unrun-is}
 use Rattle.engine_index.proofs.Rings.RingSearches.{First, none, some, first, waits}
 use Rattle.engine_index.proofs.Changes.ToRules.{least-some, least-none}
 use Rattle.engine_events.specs.Represents.{Has, Holds}
@@ -30,15 +30,15 @@ pub record Waits (n s x : ℕ) (xs : List ℕ) (q : Queue) (cells : List Cell) :
 
 -- none, or one
 abbrev pub Found : ℕ → ℕ → ℕ → List ℕ → Queue → List Cell → Type 0
-Found n s x xs q cells = ((x ≡ s) × (leastUnrun s (q .held) ≡ nothing)) ⊎ Waits n s x xs q cells
+Found n s x xs q cells = ((x ≡ 0) × (leastUnrun s (q .held) ≡ nothing)) ⊎ Waits n s x xs q cells
 
-module _ {p : Plan} {n c now : ℕ} {xs : List ℕ} {q : Queue} (s x : ℕ) (l : s < n) (e : x ≡ nextOf xs (linksAt n c) s) where
+module _ {p : Plan} {n c now : ℕ} {xs : List ℕ} {q : Queue} (s x : ℕ) (l : s < n) (e : x ≡ firstUnrun xs n c s) where
   at-cell : (A : List Cell) (k : ℕ) (a : Event) (B : List Cell) → a .target ≡ s → NoneIn n s A
       → Holds p n c now xs q (A ++ cell k (unrun a) ∷ B) → Waits n s x xs q (A ++ cell k (unrun a) ∷ B)
   at-cell A k a B t z H =
       let S = H .stores .stands in
       let y : NoneIn n (a .target) A = subst (λ u. NoneIn n u A) (sym t) z in
-      let i : x ≡ k = e ∙ ap (nextOf xs (linksAt n c)) (sym t) ∙ first-unrun A B k a S y in
+      let i : x ≡ k = e ∙ first-unrun-is A (cell k (unrun a)) B S s l t z in
       let m : Has (cell x (unrun a)) (A ++ cell k (unrun a) ∷ B) =
       subst (λ j. Has (cell j (unrun a)) (A ++ cell k (unrun a) ∷ B)) (sym i) (middle-in A (cell k (unrun a)) B) in
       record {
@@ -53,7 +53,7 @@ module _ {p : Plan} {n c now : ℕ} {xs : List ℕ} {q : Queue} (s x : ℕ) (l :
 
   found-in : {cells : List Cell} → First n s cells → Holds p n c now xs q cells → Found n s x xs q cells
   found-in (none {cells = cells} z) H = inl (
-    e ∙ next-none (H .stores .stands) s (omega arith) z,
+    e ∙ first-unrun-none (H .stores .stands) s l z,
     subst (λ h. leastUnrun s h ≡ nothing) (sym (held-map cells) ∙ H .stores .held) (least-none n s cells z),
   )
   found-in (some A y B z r) H =

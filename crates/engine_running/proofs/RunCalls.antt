@@ -22,11 +22,11 @@ use Rattle.rules.specs.Held.{Lowest}
 use Rattle.rules.specs.Engine.{Engine, RunStation, RunLowest, Refused}
 use Rattle.rules.specs.Checks.{checks}
 use Rattle.rules.specs.Calls.{lowest}
-use Rattle.rings.specs.Table.{nextOf}
+use Rattle.engine_ends.specs.Ends.{firstUnrun}
 use Rattle.entry.specs.Entry.{eventAt}
 use Rattle.engine_records.specs.Records.{stateAt, storedConfig}
 use Rattle.engine_rows.specs.Layout.{stationRow, slotRow}
-use Rattle.engine_index.specs.Layout.{linksAt, slotOf, FindsSlot}
+use Rattle.engine_index.specs.Layout.{slotOf, FindsSlot}
 use Rattle.engine_events.specs.Represents.{fitsIn}
 use Rattle.engine_events.specs.Promises.{AfterHeader, Finds}
 use Rattle.engine_moves.specs.Promises.{RunsEvent}
@@ -66,12 +66,12 @@ too-short {n} {c} {s} {xs} {r} f z =
 pub no-station : {n c s : ℕ} {xs : List ℕ} → n ≤ s → JudgesRun n c s xs (J.Refused Station)
 no-station {s = s} h = refused-run Station (λ p e R a b. run-9 p e s (omega arith))
 
-pub none-waits : {n c s x i : ℕ} {xs : List ℕ} → s < n → x ≡ nextOf xs (linksAt n c) s → FindsSlot n c (length xs) x i → c ≤ i
+pub none-waits : {n c s x i : ℕ} {xs : List ℕ} → s < n → x ≡ firstUnrun xs n c s → FindsSlot n c (length xs) x i → c ≤ i
     → JudgesRun n c s xs (J.Refused Idle)
 none-waits {n} {c} {s} {x} {i} {xs} l j F h =
     refused-run Idle
     (λ p e R a b.
-    let j′ : x ≡ nextOf xs (linksAt (p .count) (e .capacity)) s = rw (a, b) j in
+    let j′ : x ≡ firstUnrun xs (p .count) (e .capacity) s = rw (a, b) j in
     let F′ : FindsSlot (p .count) (e .capacity) (length xs) x i = rw (a, b) F in
     idle-so R (omega arith) j′ (no-slot F′ (omega arith)))
 

@@ -40,14 +40,14 @@ use Rattle.rules.proofs.Undo.Count.{undone-run}
 use Rattle.rules.proofs.Calls.Invariant.{sends-new}
 use Rattle.rules.proofs.Calls.Step.{run-inside, run-good, can-run, run-queue}
 use Rattle.rules.proofs.Calls.Answered.{first-of}
-use Rattle.rings.specs.Table.{nextOf}
+use Rattle.engine_ends.specs.Ends.{firstUnrun}
 use Rattle.engine_rows.specs.Layout.{stationRow, slotRow}
 use Rattle.line.specs.Widths.{EventFits, StateFits}
 use Rattle.entry.specs.Entry.{eventAt}
 use Rattle.engine_records.specs.Records.{stateAt, storedConfig}
 use Rattle.entry.proofs.EntryLaws.{event-fits}
 use Rattle.engine_records.proofs.Fits.{state-fits}
-use Rattle.engine_index.specs.Layout.{linksAt, slotOf, IsSlot, FindsSlot}
+use Rattle.engine_index.specs.Layout.{freeRing, slotOf, IsSlot, FindsSlot}
 use Rattle.engine_index.specs.Represents.{cell}
 use Rattle.engine_events.specs.Represents.{nonzero, Nodes, none}
 use Rattle.engine_events.specs.Promises.{AfterHeader}
@@ -69,29 +69,29 @@ use Rattle.engine_running.proofs.SendsAdded.{Ready, Stage, send-more}
 -- what the call reads, where it finds a slot
 pub record Reads (n c s x : ℕ) (xs : List ℕ) (v : Event) (r : Ran) : Type 0 where
   pub inside : s < n
-  pub next : x ≡ nextOf xs (linksAt n c) s
-  pub above : 2 * n < x
+  pub next : x ≡ firstUnrun xs n c s
+  pub above : freeRing n < x
   pub event : v ≡ eventAt (slotRow n (slotOf n x)) xs
   pub outcome : said r ≡ counted (runAt (storedConfig (stationRow n s) xs) (stateAt (stationRow n s + 32) xs) v)
 
-pub reads-of : {n c s x i : ℕ} {xs : List ℕ} {v : Event} {r : Ran} {g : Config} {b : State} → s < n → x ≡ nextOf xs (linksAt n c) s
+pub reads-of : {n c s x i : ℕ} {xs : List ℕ} {v : Event} {r : Ran} {g : Config} {b : State} → s < n → x ≡ firstUnrun xs n c s
     → FindsSlot n c (length xs) x i → i < c → v ≡ eventAt (slotRow n i) xs → g ≡ storedConfig (stationRow n s) xs → b ≡ stateAt (stationRow n s + 32) xs
     → said r ≡ counted (runAt g b v) → Reads n c s x xs v r
 reads-of {xs = xs} l i F h j k m o = record { inside = l; next = i; above = F .sound h .0 .above; event = slot-event F xs h j; outcome = rw (k, m) at o }
 
 module _ {p : Plan} {e : Engine} {xs : List ℕ} (R : Represents p e xs) {s x : ℕ} (l : s < p .count)
-    (i : x ≡ nextOf xs (linksAt (p .count) (e .capacity)) s) where
+    (i : x ≡ firstUnrun xs (p .count) (e .capacity) s) where
   pub idle-so : (IsSlot (p .count) (e .capacity) (length xs) x → ⊥) → judged (checks p e (RunStation s)) ≡ refused 14
   idle-so z = go (waiting-found s x l i (R .holds))
     where
-      go : ((x ≡ s) × (leastUnrun s (e .queue .held) ≡ nothing)) ⊎ Waits (p .count) s x xs (e .queue) (R .cells) → judged (checks p e (RunStation s)) ≡ refused 14
+      go : ((x ≡ 0) × (leastUnrun s (e .queue .held) ≡ nothing)) ⊎ Waits (p .count) s x xs (e .queue) (R .cells) → judged (checks p e (RunStation s)) ≡ refused 14
       go (inl w) = run-14 p e s l (w .1)
       go (inr w) = absurd (z (cell-slot (R .holds .stores .stands) (cell x (unrun (w .waiting))) (w .at)))
 
-  pub some-waits : 2 * p .count < x → Waits (p .count) s x xs (e .queue) (R .cells)
+  pub some-waits : freeRing (p .count) < x → Waits (p .count) s x xs (e .queue) (R .cells)
   some-waits h = go (waiting-found s x l i (R .holds))
     where
-      go : ((x ≡ s) × (leastUnrun s (e .queue .held) ≡ nothing)) ⊎ Waits (p .count) s x xs (e .queue) (R .cells) → Waits (p .count) s x xs (e .queue) (R .cells)
+      go : ((x ≡ 0) × (leastUnrun s (e .queue .held) ≡ nothing)) ⊎ Waits (p .count) s x xs (e .queue) (R .cells) → Waits (p .count) s x xs (e .queue) (R .cells)
       go (inl w) = absurd (omega (arith, w .0))
       go (inr w) = w
 

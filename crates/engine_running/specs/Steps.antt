@@ -14,11 +14,11 @@ use Rattle.line.specs.Station.{Plan, runAt}
 use Rattle.rules.specs.Held.{Lowest}
 use Rattle.rules.specs.Engine.{Engine, RunStation, RunLowest, Refused}
 use Rattle.rules.specs.Checks.{checks}
-use Rattle.rings.specs.Table.{nextOf}
+use Rattle.engine_ends.specs.Ends.{firstUnrun}
 use Rattle.entry.specs.Entry.{eventAt}
 use Rattle.engine_records.specs.Records.{stateAt, storedConfig}
 use Rattle.engine_rows.specs.Layout.{stationRow, slotRow}
-use Rattle.engine_index.specs.Layout.{linksAt, slotOf}
+use Rattle.engine_index.specs.Layout.{freeRing, slotOf}
 use Rattle.engine_rollback.specs.Promises.{Adds}
 use Rattle.engine_answers.specs.declared.RunAnswer.{RunAnswer}
 use Rattle.engine_answers.specs.declared.RunAnswer.the-variants as A
@@ -43,11 +43,11 @@ abbrev pub runVerdict : RunJudged → Verdict
 runVerdict (J.Accepts x f) = accepted
 runVerdict (J.Refused r) = refused (numberOf r)
 
--- what an accepted run has read: x is the node after the sentinel of station s, f what running its event does, and there is room for the sends
+-- what an accepted run has read: x is the first unrun node of station s, f what running its event does, and there is room for the sends
 pub record RunReads (n c s x : ℕ) (f : Effect) (xs : List ℕ) : Type 0 where
   pub inside : s < n
-  pub next : x ≡ nextOf xs (linksAt n c) s
-  pub above : 2 * n < x
+  pub next : x ≡ firstUnrun xs n c s
+  pub above : freeRing n < x
   pub outcome : said (Done f) ≡ counted (runAt (storedConfig (stationRow n s) xs) (stateAt (stationRow n s + 32) xs) (eventAt (slotRow n (slotOf n x)) xs))
   pub room : ℕ
   pub has-room : HasRoom n c xs room

@@ -35,14 +35,13 @@ fn sends(s: Sending) -> u16
 
 // How many places are free; 2 where more are.
 fn free_places(b: &[u8], n: u16, c: u16) -> u16
-    requires { ⌜ n ≤ 256 ⌝ }
     ensures { λ r. ⌜ HasRoom n c (now (b .entry)) r ⌝ }
 {
-    let x = engine_index::next(b, n, c, 2 * n);
-    if x == 2 * n {
+    let x = engine_ends::first_free(b, n, c);
+    if x == 0 {
         return 0;
     }
-    if engine_index::next(b, n, c, x) == 2 * n {
+    if engine_index::next(b, n, c, x) == engine_index::free_ring(n) {
         return 1;
     }
     2
@@ -78,7 +77,7 @@ fn judge_run(b: &[u8], n: u16, c: u16, s: u16) -> RunJudged
     if n <= s {
         return RunJudged::Refused(Refusal::Station);
     }
-    let x = engine_index::next(b, n, c, s);
+    let x = engine_ends::first_unrun(b, n, c, s);
     let i = engine_index::slot_in(b, n, c, x);
     if c <= i {
         return RunJudged::Refused(Refusal::Idle);

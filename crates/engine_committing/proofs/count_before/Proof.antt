@@ -4,6 +4,7 @@ use Prim.Native.Nat.{_-_, _≤_}
 use native.Mathlib.Omega.{arith}
 use borrow.Author.Needs.{needs}
 use Rattle.engine_promises.proofs.FoundSlots.{no-slot}
+use Rattle.engine_ends.proofs.Ends.{logged-reads}
 use Rattle.engine_committing.proofs.Counting.{Counting, timeAt, counting-start, counting-on, counting-ends, read-time}
 use Rattle.engine_committing.proofs.count_before.Statement.{statement}
 use Rattle.engine_committing.proofs.count_before.Tie as tie
@@ -15,7 +16,7 @@ abbrev μ-loop : tie.MeasureT-loop
 μ-loop b n c time x₀ count₀ x count = c - count
 
 loop-holds : tie.Need-loop-holds Inv-loop μ-loop
-loop-holds c = (omega arith, counting-start _ _ _ _ (c .next-logged .ensures))
+loop-holds c = (omega arith, counting-start _ _ _ _ (logged-reads _ _ _ _ (c .first-logged .ensures)))
 
 -- the place of the loop, seen from the time that is read
 abbrev around : tie.After-time Inv-loop μ-loop → tie.At-loop Inv-loop μ-loop
@@ -53,7 +54,7 @@ loop-again c =
     let slot = t .before .before .slot-in .ensures .sound (t .before .if1 .left) .0 in (
       omega (arith, t .before .before .before .loop-test .taken),
       counting-on _ _ _ _ (around t .loop .inv .1) (λ z. omega (arith, z, slot .above)) (omega (arith, time-read t, c .before .if2 .left))
-          (c .next-logged2 .ensures),
+          (c .next-logged .ensures),
     )
 
 pub count-before-spec : {M : Type 1} → statement M

@@ -1,9 +1,6 @@
 -- The first of the station's run ring has the state (`first-run`); where there is none, the station itself (`none-run`).
-use Prim.Native.Nat.{_≤_}
-use native.Mathlib.Omega.{arith}
 use borrow.Author.Needs.{needs}
-use borrow.Author.Tests.{not-true, not-false}
-use Rattle.engine_events.proofs.Fitting.{fits-true}
+use borrow.Author.Tests.{not-true}
 use Rattle.engine_committing.proofs.Recording.{other-station, none-run, first-run}
 use Rattle.engine_promises.proofs.ShortBuffer.{unfit-call}
 use Rattle.engine_committing.proofs.record.Statement.{statement}
@@ -13,12 +10,6 @@ use Rattle.engine_committing.proofs.record.Tie as tie
 
 abbrev sized : tie.Else2 → tie.After-capacity
 sized c = c .before .before .before
-
--- the buffer is long enough for both numbers
-range : (c : tie.Else2) → (sized c .before .stations .result ≤ 256) × (sized c .capacity .result ≤ 4096)
-range c =
-    let w = fits-true _ _ _ (c .before .before .fits2 .ensures) (not-false _ (c .before .if1 .left)) in
-    (w .0, w .1)
 
 -- ---- refusals
 
@@ -37,13 +28,13 @@ returns-2 c =
 returns-3 : tie.Need-returns-3
 returns-3 c =
     let s = c .before .before .before in
-    none-run (sized s .before .stations .ensures) (sized s .capacity .ensures) _ (s .if2 .left) (c .before .before .next .ensures) (c .before .if3 .taken)
+    none-run (sized s .before .stations .ensures) (sized s .capacity .ensures) _ (s .if2 .left) (c .before .before .first-run .ensures) (c .before .if3 .taken)
     (c .state .ensures)
 
 returns-4 : tie.Need-returns-4
 returns-4 c =
     let s = c .before .before .before in
-    first-run (sized s .before .stations .ensures) (sized s .capacity .ensures) _ (s .if2 .left) (c .before .before .next .ensures) (c .before .if3 .left)
+    first-run (sized s .before .stations .ensures) (sized s .capacity .ensures) _ (s .if2 .left) (c .before .before .first-run .ensures) (c .before .if3 .left)
     (c .saved .ensures)
 
 pub record-spec : {M : Type 1} → statement M
@@ -57,9 +48,7 @@ record-spec =
     (λ c. search needs)
     returns-2
     (λ c. search needs)
-    (λ c. omega (arith, range c))
     (λ c κs. search needs)
-    (λ c. omega (arith, range (c .before)))
     (λ c κs. search needs)
     returns-3
     (λ c κs. search needs)

@@ -1,11 +1,12 @@
 -- The search: no slot passed so far holds the post; a slot that does ends it (`finds-at`), and so does the last slot (`finds-none`).
-use mathlib.Core.Path.{_≡_, refl, sym, _∙_}
+use mathlib.Core.Path.{_≡_, sym, _∙_}
 use mathlib.Core.Bool.{false}
 use Prim.Native.Nat.{ℕ, _-_, _≤_, _<_}
 use native.Mathlib.Omega.{arith}
 use borrow.Author.Count.{below-more}
 use borrow.Author.Needs.{needs}
 use denote.Ref.{now}
+use Rattle.engine_index.specs.Layout.{nodeOf}
 use Rattle.engine_posting.specs.Steps.{isPostAt}
 use Rattle.engine_posting.proofs.PostSlots.{finds-none, finds-at}
 use Rattle.engine_posting.proofs.find_post.Statement.{statement}
@@ -18,7 +19,12 @@ abbrev μ-loop : tie.MeasureT-loop
 μ-loop b n c number i₀ i = c - i
 
 returns : tie.Need-returns Inv-loop μ-loop
-returns c = finds-at _ _ _ _ _ refl (c .before .before .loop-test .taken) (sym (c .before .is-post .ensures) ∙ c .if1 .taken)
+returns c =
+    let t = c .before .before .before in
+    let l = t .before in
+    let a = l .before .before .args in
+    let node : c .node-of .result ≡ nodeOf (a .n) (l .loop .i) = omega (arith, c .node-of .ensures, l .before .before .pre, t .loop-test .taken) in
+    finds-at _ _ _ _ _ node (t .loop-test .taken) (sym (c .before .before .is-post .ensures) ∙ c .before .if1 .taken)
 
 loop-again : tie.Need-loop-again Inv-loop μ-loop
 loop-again c =
@@ -40,9 +46,7 @@ find-post-spec =
     μ-loop
     (λ c. (omega arith, λ k h. absurd (omega arith)))
     (λ c κs. search needs)
-    (λ c. omega arith)
-    (λ c. omega arith)
-    (λ c. omega arith)
+    (λ c κs. search needs)
     returns
     (λ c. omega arith)
     (λ c. omega arith)

@@ -1,10 +1,9 @@
 -- The tests are those of the rules, in their order: a refusal has the law of its number, and an accepted post `post-judged`.
 use mathlib.Core.Path.{_≡_, sym, _∙_}
 use native.Mathlib.Omega.{arith}
-use borrow.Author.Tests.{not-true, not-false}
+use borrow.Author.Tests.{not-true}
 use Rattle.line.specs.declared.Meant.the-variants.{Means}
 use Rattle.line.specs.Matter.{matterOf}
-use Rattle.engine_events.proofs.Fitting.{fits-true}
 use Rattle.engine_promises.proofs.ShortBuffer.{unfit-judged}
 use Rattle.engine_posting.proofs.PostJudging.{post-refused, station-out, matter-unsuited, time-late, time-early, number-over, none-free, post-judged}
 use borrow.Author.Needs.{needs}
@@ -81,11 +80,6 @@ returns-6 c =
     (number-over (k .before .stations .ensures) (k .capacity .ensures) _ _ _ _ (station m .if2 .left) _ (meaning m) (t .if3 .left)
     (h .before .before .header .ensures .0 (omega arith)) (h .before .if4 .left) (h .header2 .ensures .0 (omega arith)) (c .if5 .taken))
 
-full-requires : tie.Need-full-requires
-full-requires c κs =
-    let s = station (timely (c .before) .before .before) in
-    fits-true _ (sized s .capacity .result) _ (s .before .before .fits2 .ensures) (not-false _ (s .before .if1 .left)) .0
-
 returns-7 : tie.Need-returns-7
 returns-7 c =
     let h = numbered (c .before) in
@@ -128,7 +122,7 @@ judge-post-spec =
     returns-5
     (λ c κs. search needs)
     returns-6
-    full-requires
+    (λ c κs. search needs)
     returns-7
     (λ c. search needs)
     (λ c. search needs)
