@@ -12,6 +12,7 @@ use Rattle.rings.specs.Ring.{RingIn}
 use Rattle.rings.proofs.Places.{first-of}
 use Rattle.engine_index.specs.Layout.{unrunRing, runRing, freeRing, linksAt, logAt, nodesOf}
 use Rattle.engine_index.specs.Represents.{Cell, cell, ringOf, Stands, NoneIn}
+use Rattle.engine_index.proofs.Places.Range.{logged-in}
 use Rattle.engine_index.proofs.Rings.Contents.{contents-free}
 use Rattle.engine_index.proofs.Rings.RingEnds.{first-in, last-in, next-none, prev-none, NoneRun, log-none}
 use Rattle.engine_index.proofs.Rings.RingEnds as rings
@@ -86,8 +87,7 @@ unfolding firstLogged
 logged-reads n c x xs e l k = rw (le-leb n 256 l, le-leb c 4096 k) at e
 
 in-range : {n c : ℕ} {xs : List ℕ} {cells : List Cell} {free : List ℕ} → Stands n c xs cells free → firstLogged xs n c ≡ nextOf xs (logAt n c) 0
-unfolding firstLogged
-in-range {n} {c} S = rw (le-leb n 256 (S .stations), le-leb c 4096 (S .capacity))
+in-range {n} {c} {xs} S = logged-in n c (S .stations) (S .capacity) xs 0
 
 pub first-logged-none : {n c : ℕ} {xs : List ℕ} {cells : List Cell} {free : List ℕ} → Stands n c xs cells free → NoneRun cells → firstLogged xs n c ≡ 0
 first-logged-none S z = in-range S ∙ log-none S z

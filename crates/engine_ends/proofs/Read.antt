@@ -1,15 +1,16 @@
 -- From what the code reads to the ends.
-use mathlib.Core.Path.{_≡_, sym, _∙_}
+use mathlib.Core.Path.{_≡_}
 use mathlib.Core.Logic.{_≢_}
-use mathlib.Core.Bool.{Bool, true, false}
+use mathlib.Core.Bool.{Bool, true, false, cond}
 use mathlib.Core.List.{List}
 use Prim.Native.Nat.{ℕ, _%_, _≤_, _<_}
 use native.Mathlib.Omega.{arith}
 use borrow.Author.Tests.{le-leb, lt-leb, lt-ltb, le-ltb, eq-eqb, ne-eqb}
+use lib.Dec.{eqb, leb}
+use lib.ListN.{length}
 use Rattle.rings.specs.Table.{nextOf, prevOf}
-use Rattle.engine_index.specs.Layout.{runRing, freeRing, linksAt, logAt, inRange}
-use Rattle.engine_index.proofs.Places.Refusals.{range-true}
-use Rattle.engine_ends.specs.Ends.{firstUnrun, firstRun, lastRun, firstFree, firstLogged}
+use Rattle.engine_index.specs.Layout.{runRing, freeRing, linksAt, slotIn}
+use Rattle.engine_ends.specs.Ends.{firstUnrun, firstRun, lastRun, firstFree, spareNode}
 
 module _ (xs : List ℕ) (n c s : ℕ) where
   -- ---- unrun
@@ -83,16 +84,21 @@ module _ (xs : List ℕ) (n c : ℕ) where
   unfolding firstFree
   free-many k = rw (lt-leb n 256 k)
 
-  -- ---- log
+  -- ---- a free slot
 
-  pub logged-in : {v : Bool} {l x : ℕ} → v ≡ inRange n c → v ≡ true → (n ≤ 256 → c ≤ 4096 → l ≡ logAt n c) → x ≡ nextOf xs l 0 → x ≡ firstLogged xs n c
-  unfolding firstLogged
-  logged-in {v} {l} ev z el ex =
-      let r = range-true n c ev z in
-      let e : l ≡ logAt n c = el (r .0) (r .1) in
-      let t : inRange n c ≡ true = sym ev ∙ z in
-      rw (t, ← e, ex)
+  pub free-next : {x : ℕ} → x ≡ firstFree xs n c → freeRing n < x → x ≡ nextOf xs (linksAt n c) (freeRing n)
+  unfolding firstFree
+  free-next {x} e l = go (leb n 256) (eqb (nextOf xs (linksAt n c) (freeRing n)) (freeRing n)) e
+    where
+      go : (v w : Bool) → x ≡ cond v (cond w 0 (nextOf xs (linksAt n c) (freeRing n))) 0 → x ≡ nextOf xs (linksAt n c) (freeRing n)
+      go true false q = q
+      go true true q = absurd (omega arith)
+      go false w q = absurd (omega arith)
 
-  pub logged-out : {v : Bool} → v ≡ inRange n c → v ≡ false → 0 ≡ firstLogged xs n c
-  unfolding firstLogged
-  logged-out ev z = let t : inRange n c ≡ false = sym ev ∙ z in rw t
+  pub spare-is : {x i : ℕ} → x ≡ firstFree xs n c → i ≡ slotIn n c (length xs) x → i < c → x ≡ spareNode xs n c
+  unfolding spareNode
+  spare-is ex ei h = rw (← ex, ← ei, lt-ltb _ c h)
+
+  pub spare-none : {x i : ℕ} → x ≡ firstFree xs n c → i ≡ slotIn n c (length xs) x → c ≤ i → 0 ≡ spareNode xs n c
+  unfolding spareNode
+  spare-none ex ei h = rw (← ex, ← ei, le-ltb _ c h)

@@ -3,8 +3,9 @@ use mathlib.Core.Bool.{cond, _&&_}
 use mathlib.Core.List.{List}
 use Prim.Native.Nat.{ℕ}
 use lib.Dec.{eqb, leb, ltb}
+use lib.ListN.{length}
 use Rattle.rings.specs.Table.{nextOf, prevOf}
-use Rattle.engine_index.specs.Layout.{unrunRing, runRing, freeRing, linksAt, logAt, inRange}
+use Rattle.engine_index.specs.Layout.{unrunRing, runRing, freeRing, linksAt, slotIn, nextLogged}
 
 -- the node x that stands next to the sentinel u: none where it is u
 abbrev pub besideSentinel : ℕ → ℕ → ℕ
@@ -25,6 +26,10 @@ lastRun xs n c s = cond (ltb s n && leb n 256) (besideSentinel (runRing n s) (pr
 unfoldable pub firstFree : List ℕ → ℕ → ℕ → ℕ
 firstFree xs n c = cond (leb n 256) (besideSentinel (freeRing n) (nextOf xs (linksAt n c) (freeRing n))) 0
 
+-- the first free slot's, where the index lies whole in the bytes
+unfoldable pub spareNode : List ℕ → ℕ → ℕ → ℕ
+spareNode xs n c = cond (ltb (slotIn n c (length xs) (firstFree xs n c)) c) (firstFree xs n c) 0
+
 -- of the log, whose sentinel is 0
-unfoldable pub firstLogged : List ℕ → ℕ → ℕ → ℕ
-firstLogged xs n c = cond (inRange n c) (nextOf xs (logAt n c) 0) 0
+abbrev pub firstLogged : List ℕ → ℕ → ℕ → ℕ
+firstLogged xs n c = nextLogged xs n c 0

@@ -63,8 +63,5 @@ pub fn first_free(b: &[u8], n: u16, c: u16) -> u16
 pub fn first_logged(b: &[u8], n: u16, c: u16) -> u16
     ensures { λ r. ⌜ r ≡ firstLogged (now (b .entry)) n c ⌝ }
 {
-    if engine_index::in_range(n, c) {
-        return rings::next(b, engine_index::log(n, c), 0);
-    }
-    0
+    engine_index::next_logged(b, n, c, 0)
 }

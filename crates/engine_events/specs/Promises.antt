@@ -5,20 +5,23 @@ use mathlib.Core.List.{List}
 use Prim.Native.Nat.{ℕ, _<_}
 use lib.ListN.{length}
 use Rattle.refusal.specs.declared.Refusal.{Refusal}
+use Rattle.refusal.specs.declared.Refusal.the-variants.{Idle}
 use Rattle.calendar.specs.declared.Least.{Least}
 use Rattle.calendar.specs.declared.Least.the-variants.{At, Refused as NoLeast}
 use Rattle.line.specs.Station.{Plan}
 use Rattle.rules.specs.Held.{Queue, noneUnrun, Lowest}
 use Rattle.rings.specs.Table.{Frame}
 use Rattle.engine_index.specs.Represents.{Cell}
-use Rattle.engine_events.specs.Represents.{Holds}
+use Rattle.engine_events.specs.Represents.{fitsIn, Holds}
 
 -- at most bytes after the header are changed
 abbrev pub AfterHeader : List ℕ → List ℕ → Type 0
 AfterHeader xs ys = Frame 64 (length xs) xs ys
 
--- a station of least time, with it
+-- a station of least time, with it; 14 where no event is unrun, and where the numbers are out of range or the buffer is too short
 pub record Finds (n c : ℕ) (xs : List ℕ) (r : Least) : Type 0 where
+  pub unfit : fitsIn n c (length xs) ≡ false → r ≡ NoLeast Idle
+  pub idle : (p : Plan) (now : ℕ) (q : Queue) (cells : List Cell) → Holds p n c now xs q cells → (e : Refusal) → r ≡ NoLeast e → e ≡ Idle
   pub none : (p : Plan) (now : ℕ) (q : Queue) (cells : List Cell) → Holds p n c now xs q cells → (e : Refusal) → r ≡ NoLeast e
       → noneUnrun (q .held) ≡ true
   pub some : (p : Plan) (now : ℕ) (q : Queue) (cells : List Cell) → Holds p n c now xs q cells → (s t : ℕ) → r ≡ At s t

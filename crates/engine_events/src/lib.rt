@@ -52,13 +52,13 @@ pub fn saved(b: &[u8], n: u16, x: u16) -> State
 pub fn first_send(b: &[u8], n: u16, x: u16) -> u16
     ensures { λ r. ⌜ r ≡ loadAt 2 (slotRow n (slotOf n x) + 56) (now (b .entry)) ⌝ }
 {
-    engine_rows::number(b, n, engine_index::slot(n, x), 0)
+    engine_rows::number(b, n, engine_index::slot(n, x), engine_rows::FIRST_SEND)
 }
 
 pub fn second_send(b: &[u8], n: u16, x: u16) -> u16
     ensures { λ r. ⌜ r ≡ loadAt 2 (slotRow n (slotOf n x) + 58) (now (b .entry)) ⌝ }
 {
-    engine_rows::number(b, n, engine_index::slot(n, x), 1)
+    engine_rows::number(b, n, engine_index::slot(n, x), engine_rows::SECOND_SEND)
 }
 
 // ---- the calendar
@@ -70,7 +70,7 @@ pub fn calendar_start(n: u16, c: u16) -> u32
     72 + 144 * n as u32 + 72 * c as u32
 }
 
-// A station of the least time among the first unrun events, with that time.
+// A station of the least time among the first unrun events, with that time; 14 where there is none.
 pub fn lowest(b: &[u8], n: u16, c: u16) -> Least
     ensures { λ r. ⌜ Finds n c (now (b .entry)) r ⌝ }
 {

@@ -9,6 +9,7 @@ ghost use Rattle.rings.specs.Walk.{steps};
 ghost use Rattle.engine_rows.specs.Layout.{slotRow};
 ghost use Rattle.engine_index.specs.Layout.{indexBytes};
 ghost use Rattle.engine_index.specs.SlotPromises.{Spares};
+ghost use Rattle.engine_ends.specs.Ends.{spareNode};
 ghost use Rattle.engine_index.specs.Steps.{stopAt, filed};
 ghost use Rattle.engine_index.specs.Promises.{Puts, Marks};
 use line::Event;
@@ -56,30 +57,29 @@ fn file(b: &mut [u8], n: u16, o: u32, k: u16, s: u16, e: Event, x: u16)
 
 // ---- the changes
 
-// A free slot takes the event, unrun. Answers its node; 2 n where no slot is free, and then nothing is done.
+// A free slot takes the event, unrun. Answers its node; 0 where no slot is free, and then nothing is done.
 pub fn put(b: &mut [u8], n: u16, c: u16, e: Event) -> u16
     ensures frame { λ _. ⌜ Frame (slotRow n 0) (indexBytes n c) (now (b .entry)) (now (b .exit)) ⌝ }
     ensures puts { λ r. ⌜ Puts n c (now (b .entry)) e r (now (b .exit)) ⌝ }
     ensures spares { λ r. ⌜ Spares n c r (now (b .entry)) (now (b .exit)) ⌝ }
+    ensures answer { λ r. ⌜ r ≡ spareNode (now (b .entry)) n c ⌝ }
+    ensures none { λ r. ⌜ (r ≡ 0 → now (b .exit) ≡ now (b .entry)) ⌝ }
 {
-    if engine_index::in_range(n, c) {
+    let x = engine_ends::first_free(b, n, c);
+    let spare = engine_index::slot_in(b, n, c, x);
+    if spare < c {
         let o = engine_index::links(n, c);
         let k = engine_index::nodes(n, c);
-        let x = rings::next(b, o, 2 * n);
-        let spare = engine_index::slot_in(b, n, c, x);
-        if spare < c {
-            rings::unlink(b, o, k, x);
-            engine_rows::set_event(b, n, spare, e);
-            engine_rows::set_number(b, n, spare, 2, 1);
-            let last = rings::prev(b, o, e.target);
-            if stops(b, n, e.target, e, last) {
-                rings::insert_after(b, o, k, last, x);
-                return x;
-            }
-            file(b, n, o, k, e.target, e, x);
+        rings::unlink(b, o, k, x);
+        engine_rows::set_event(b, n, spare, e);
+        engine_rows::set_number(b, n, spare, engine_rows::STATUS, engine_rows::UNRUN);
+        let last = rings::prev(b, o, e.target);
+        if stops(b, n, e.target, e, last) {
+            rings::insert_after(b, o, k, last, x);
             return x;
         }
-        return 2 * n;
+        file(b, n, o, k, e.target, e, x);
+        return x;
     }
     0
 }
@@ -98,9 +98,9 @@ pub fn mark(b: &mut [u8], n: u16, c: u16, x: u16, v: State)
             let o = engine_index::links(n, c);
             let k = engine_index::nodes(n, c);
             engine_rows::set_saved(b, n, i, v);
-            engine_rows::set_number(b, n, i, 2, 2);
+            engine_rows::set_number(b, n, i, engine_rows::STATUS, engine_rows::RUN);
             rings::unlink(b, o, k, x);
-            let a = rings::prev(b, o, n + t);
+            let a = rings::prev(b, o, engine_index::run_ring(n, t));
             rings::insert_after(b, o, k, a, x);
             let l = engine_index::log(n, c);
             let last = rings::prev(b, l, 0);

@@ -1,9 +1,9 @@
 -- Empty rings are made one after the other, then the slots go into the free ring in order.
-use mathlib.Core.Path.{_≡_, refl, sym, ap, _∙_, subst}
+use mathlib.Core.Path.{_≡_, refl, sym, ap, ap₂, _∙_, subst}
 use mathlib.Core.Logic.{_≢_, inl, inr}
 use mathlib.Core.Bool.{Bool, true, false, true≢false}
 use mathlib.Core.List.{List, [], _∷_, _++_, append-nil}
-use Prim.Native.Nat.{ℕ, zero, suc, _+_, _*_, _≤_, _<_}
+use Prim.Native.Nat.{ℕ, zero, suc, _+_, _-_, _*_, _≤_, _<_}
 use native.Mathlib.Nat.{add-zero}
 use native.Mathlib.Decide.{ℕ-discrete, decLt}
 use native.Mathlib.Numerals.{add-one}
@@ -20,7 +20,7 @@ use Rattle.rings.proofs.Frames.{store-frame, frame-same, frame-on, frame-wider}
 use Rattle.rings.proofs.Confined.{empty-frame, insert-frame}
 use Rattle.rings.proofs.Families.{free-all, rings-none, rings-empty, rings-insert, rings-elsewhere, rings-renamed}
 use Rattle.engine_rows.specs.Layout.{slotRow}
-use Rattle.engine_index.specs.Layout.{linksAt, logAt, nodesOf, indexBytes, slotOf, inRange}
+use Rattle.engine_index.specs.Layout.{nodeOf, linksAt, logAt, nodesOf, indexBytes, slotOf, inRange}
 use Rattle.engine_index.specs.Represents.{contents, statusAt, Free}
 use Rattle.engine_index.specs.Opening.{emptied, filled, places, Clears}
 
@@ -195,12 +195,13 @@ pub emptied-on : (xs : List ℕ) (o k m : ℕ) {ys zs : List ℕ} → ys ≡ emp
 unfolding emptied
 emptied-on xs o k m ey ez = rw (add-one, ← ey) ez
 
-pub filled-on : (xs : List ℕ) (n o k i : ℕ) {ys zs us : List ℕ} → ys ≡ filled xs n o k i → zs ≡ storeAt 2 (slotRow n i + 56 + 2 * 2) 0 ys
-    → us ≡ linkAfter zs o k (2 * n + i) (2 * n + 1 + i) → us ≡ filled xs n o k (i + 1)
+pub filled-on : (xs : List ℕ) (n o k i : ℕ) {x : ℕ} {ys zs us : List ℕ} → ys ≡ filled xs n o k i → zs ≡ storeAt 2 (slotRow n i + 56 + 2 * 2) 0 ys
+    → x ≡ nodeOf n i → us ≡ linkAfter zs o k (x - 1) x → us ≡ filled xs n o k (i + 1)
 unfolding filled
-filled-on xs n o k i {ys} {zs} {us} ey ez eu =
+filled-on xs n o k i {x} {ys} {zs} {us} ey ez ex eu =
     let a : slotRow n i + 56 + 2 * 2 ≡ slotRow n i + 60 = omega arith in
-    rw (add-one, ← ey) (eu ∙ ap (λ (t : List ℕ). linkAfter t o k (2 * n + i) (2 * n + 1 + i)) (ez ∙ ap (λ (m : ℕ). storeAt 2 m 0 ys) a))
+    let p : x - 1 ≡ 2 * n + i = omega arith in
+    rw (add-one, ← ey) (eu ∙ ap₂ (λ (y z : ℕ). linkAfter zs o k y z) p ex ∙ ap (λ (t : List ℕ). linkAfter t o k (2 * n + i) (2 * n + 1 + i)) (ez ∙ ap (λ (m : ℕ). storeAt 2 m 0 ys) a))
 
 pub emptied-none : (xs : List ℕ) (o k : ℕ) → xs ≡ emptied xs o k 0
 unfolding emptied
@@ -227,10 +228,11 @@ cleared-inside n c xs ys zs us ey ez eu =
 
 -- ---- the steps of `clear`
 
-pub clear-made : (n c : ℕ) (xs : List ℕ) {o k l : ℕ} {ys zs us : List ℕ} → o ≡ linksAt n c → k ≡ nodesOf n c → ys ≡ emptied xs o k (2 * n + 1)
+pub clear-made : (n c : ℕ) (xs : List ℕ) {o k l m : ℕ} {ys zs us : List ℕ} → o ≡ linksAt n c → k ≡ nodesOf n c → m ≡ nodeOf n 0 → ys ≡ emptied xs o k m
     → zs ≡ filled ys n o k c → l ≡ logAt n c → us ≡ emptyAt zs l k 0 → Frame (slotRow n 0) (indexBytes n c) xs us × Clears n c xs us
-clear-made n c xs {ys = ys} {zs = zs} {us = us} eo ek ey ez el eu =
-    let a : ys ≡ emptied xs (linksAt n c) (nodesOf n c) (2 * n + 1) = rw (← eo, ← ek) ey in
+clear-made n c xs {m = m} {ys = ys} {zs = zs} {us = us} eo ek em ey ez el eu =
+    let first : m ≡ 2 * n + 1 = omega arith in
+    let a : ys ≡ emptied xs (linksAt n c) (nodesOf n c) (2 * n + 1) = rw (← eo, ← ek, ← first) ey in
     let b : zs ≡ filled ys n (linksAt n c) (nodesOf n c) c = rw (← eo, ← ek) ez in
     let d : us ≡ emptyAt zs (logAt n c) (nodesOf n c) 0 = rw (← el, ← ek) eu in
     (cleared-inside n c xs ys zs us a b d, cleared n c xs ys zs us a b d)

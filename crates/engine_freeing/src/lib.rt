@@ -6,7 +6,7 @@
 ghost use mathlib.Core.Path.{_≡_};
 ghost use Prim.Native.Nat.{_≤_, _<_};
 ghost use Rattle.rings.specs.Table.{Frame};
-ghost use Rattle.engine_rows.specs.Layout.{slotRow};
+ghost use Rattle.engine_rows.specs.Layout.{slotRow, freeStatus, unrunStatus};
 ghost use Rattle.entry.specs.Entry.{eventAt};
 ghost use Rattle.engine_index.specs.Layout.{indexBytes, slotOf};
 ghost use Rattle.engine_index.specs.SlotPromises.{Spares, Sets};
@@ -19,7 +19,7 @@ pub fn unmark(b: &mut [u8], n: u16, c: u16, x: u16)
     ensures frame { λ _. ⌜ Frame (slotRow n 0) (indexBytes n c) (now (b .entry)) (now (b .exit)) ⌝ }
     ensures unmarks { λ _. ⌜ Unmarks n c (now (b .entry)) x (now (b .exit)) ⌝ }
     ensures spares { λ _. ⌜ Spares n c x (now (b .entry)) (now (b .exit)) ⌝ }
-    ensures sets { λ _. ⌜ (eventAt (slotRow n (slotOf n x)) (now (b .entry)) .target < n → Sets n c x 1 (now (b .entry)) (now (b .exit))) ⌝ }
+    ensures sets { λ _. ⌜ (eventAt (slotRow n (slotOf n x)) (now (b .entry)) .target < n → Sets n c x unrunStatus (now (b .entry)) (now (b .exit))) ⌝ }
 {
     let i = engine_index::slot_in(b, n, c, x);
     if i < c {
@@ -28,7 +28,7 @@ pub fn unmark(b: &mut [u8], n: u16, c: u16, x: u16)
         if t < n {
             let o = engine_index::links(n, c);
             let k = engine_index::nodes(n, c);
-            engine_rows::set_number(b, n, i, 2, 1);
+            engine_rows::set_number(b, n, i, engine_rows::STATUS, engine_rows::UNRUN);
             rings::unlink(b, engine_index::log(n, c), k, x);
             rings::unlink(b, o, k, x);
             rings::insert_after(b, o, k, t, x);
@@ -36,7 +36,7 @@ pub fn unmark(b: &mut [u8], n: u16, c: u16, x: u16)
     }
 }
 
-// Node x goes from its ring to the free ring, and its slot's status is 0. Nothing is done where it is no slot's node.
+// Node x goes from its ring to the free ring, and its slot is free. Nothing is done where it is no slot's node.
 fn free(b: &mut [u8], n: u16, c: u16, x: u16)
     ensures { λ _. ⌜ Frees n c (now (b .entry)) x (now (b .exit)) ⌝ }
 {
@@ -44,9 +44,9 @@ fn free(b: &mut [u8], n: u16, c: u16, x: u16)
     if held < c {
         let o = engine_index::links(n, c);
         let k = engine_index::nodes(n, c);
-        engine_rows::set_number(b, n, held, 2, 0);
+        engine_rows::set_number(b, n, held, engine_rows::STATUS, engine_rows::FREE);
         rings::unlink(b, o, k, x);
-        rings::insert_after(b, o, k, 2 * n, x);
+        rings::insert_after(b, o, k, engine_index::free_ring(n), x);
     }
 }
 
@@ -55,7 +55,7 @@ pub fn drop(b: &mut [u8], n: u16, c: u16, x: u16)
     ensures frame { λ _. ⌜ Frame (slotRow n 0) (indexBytes n c) (now (b .entry)) (now (b .exit)) ⌝ }
     ensures drops { λ _. ⌜ Drops n c (now (b .entry)) x (now (b .exit)) ⌝ }
     ensures spares { λ _. ⌜ Spares n c x (now (b .entry)) (now (b .exit)) ⌝ }
-    ensures sets { λ _. ⌜ Sets n c x 0 (now (b .entry)) (now (b .exit)) ⌝ }
+    ensures sets { λ _. ⌜ Sets n c x freeStatus (now (b .entry)) (now (b .exit)) ⌝ }
 {
     free(b, n, c, x);
 }
@@ -86,15 +86,16 @@ fn empty_rings(b: &mut [u8], o: u32, k: u16, m: u16)
     }
 }
 
-// Slots 0 to c - 1 have status 0, and are in the free ring in this order.
+// Slots 0 to c - 1 are free, and in the free ring in this order.
 fn free_slots(b: &mut [u8], n: u16, o: u32, k: u16, c: u16)
     requires { ⌜ (n ≤ 256) × (c ≤ 4096) ⌝ }
     ensures { λ _. ⌜ now (b .exit) ≡ filled (now (b .entry)) n o k c ⌝ }
 {
     let mut i: u16 = 0;
     while i < c {
-        engine_rows::set_number(b, n, i, 2, 0);
-        rings::insert_after(b, o, k, 2 * n + i, 2 * n + 1 + i);
+        let x = engine_index::node_of(n, i);
+        engine_rows::set_number(b, n, i, engine_rows::STATUS, engine_rows::FREE);
+        rings::insert_after(b, o, k, x - 1, x);
         i += 1;
     }
 }
@@ -107,7 +108,7 @@ pub fn clear(b: &mut [u8], n: u16, c: u16)
     if engine_index::in_range(n, c) {
         let o = engine_index::links(n, c);
         let k = engine_index::nodes(n, c);
-        empty_rings(b, o, k, 2 * n + 1);
+        empty_rings(b, o, k, engine_index::node_of(n, 0));
         free_slots(b, n, o, k, c);
         rings::make_empty(b, engine_index::log(n, c), k, 0);
     }

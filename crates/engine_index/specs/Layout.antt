@@ -1,8 +1,9 @@
 -- Where the index stands in a buffer of n stations and c slots, and which node is what.
-use mathlib.Core.Path.{_≡_}
-use mathlib.Core.Bool.{Bool, _&&_}
+use mathlib.Core.Bool.{Bool, cond, _&&_}
+use mathlib.Core.List.{List}
 use Prim.Native.Nat.{ℕ, _+_, _-_, _*_, _≤_, _<_}
-use lib.Dec.{leb}
+use lib.Dec.{leb, ltb}
+use Rattle.rings.specs.Table.{nextOf}
 use Rattle.engine_rows.specs.Layout.{slotRow}
 
 -- ---- nodes: the sentinels, then the slots
@@ -49,10 +50,15 @@ pub record IsSlot (n c bytes x : ℕ) : Type 0 where
   pub stations : n ≤ 256
   pub capacity : c ≤ 4096
   pub room : slotRow n 0 + indexBytes n c ≤ bytes
-  pub above : 2 * n < x
+  pub above : freeRing n < x
   pub below : x < nodesOf n c
 
--- r is the slot of node x; c or more where that is no slot's
-pub record FindsSlot (n c bytes x r : ℕ) : Type 0 where
-  pub sound : r < c → IsSlot n c bytes x × (r ≡ slotOf n x)
-  pub complete : IsSlot n c bytes x → (r < c) × (r ≡ slotOf n x)
+-- the slot of a node after the sentinels, of an index that lies whole in so many bytes; c elsewhere
+unfoldable pub slotIn : ℕ → ℕ → ℕ → ℕ → ℕ
+slotIn n c bytes x = cond (inRange n c && (leb (slotRow n 0 + indexBytes n c) bytes && ltb (freeRing n) x)) (slotOf n x) c
+
+-- ---- the log
+
+-- the node after node x in it; 0 where the numbers are out of range
+unfoldable pub nextLogged : List ℕ → ℕ → ℕ → ℕ → ℕ
+nextLogged xs n c x = cond (inRange n c) (nextOf xs (logAt n c) x) 0

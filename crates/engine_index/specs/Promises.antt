@@ -6,6 +6,7 @@ use Rattle.line.specs.declared.Event.{Event}
 use Rattle.line.specs.declared.State.{State}
 use Rattle.rules.specs.Held.{unrun, ran}
 use Rattle.line.specs.Widths.{EventFits, StateFits}
+use Rattle.engine_index.specs.Layout.{unrunRing, runRing}
 use Rattle.engine_index.specs.Represents.{Cell, cell, AllBefore, AllAfter, Stands, NoneIn}
 
 -- an event takes the first free slot, between those before it and those after it
@@ -18,13 +19,13 @@ Puts n c xs e r ys =
 abbrev pub Marks : ℕ → ℕ → List ℕ → ℕ → State → List ℕ → Type 0
 Marks n c xs x v ys =
     (A B : List Cell) (e : Event) (free : List ℕ) → Stands n c xs (A ++ cell x (unrun e) ∷ B) free → StateFits v
-    → NoneIn n (e .target) A → NoneIn n (n + e .target) B → Stands n c ys (A ++ cell x (ran e v) ∷ B) free
+    → NoneIn n (unrunRing (e .target)) A → NoneIn n (runRing n (e .target)) B → Stands n c ys (A ++ cell x (ran e v) ∷ B) free
 
 -- the last run event of a station, of which none is unrun before it, is unrun again
 abbrev pub Unmarks : ℕ → ℕ → List ℕ → ℕ → List ℕ → Type 0
 Unmarks n c xs x ys =
     (A B : List Cell) (e : Event) (b : State) (free : List ℕ) → Stands n c xs (A ++ cell x (ran e b) ∷ B) free
-    → NoneIn n (e .target) A → NoneIn n (n + e .target) B → Stands n c ys (A ++ cell x (unrun e) ∷ B) free
+    → NoneIn n (unrunRing (e .target)) A → NoneIn n (runRing n (e .target)) B → Stands n c ys (A ++ cell x (unrun e) ∷ B) free
 
 -- an unrun event leaves, and its slot is free
 abbrev pub Drops : ℕ → ℕ → List ℕ → ℕ → List ℕ → Type 0

@@ -3,7 +3,7 @@ use mathlib.Core.Path.{_≡_}
 use mathlib.Core.Logic.{_≢_}
 use mathlib.Core.Bool.{Bool, true, false, cond}
 use mathlib.Core.List.{List, [], _∷_}
-use Prim.Native.Nat.{ℕ, _+_, _*_, _≤_, _<_}
+use Prim.Native.Nat.{ℕ, _+_, _≤_, _<_}
 use lib.Dec.{eqb}
 use lib.ListN.{length}
 use Rattle.words.specs.Le.{loadAt}
@@ -11,10 +11,10 @@ use Rattle.line.specs.declared.Event.{Event}
 use Rattle.line.specs.Event.{before}
 use Rattle.rules.specs.Held.{Held, unrun, ran, event}
 use Rattle.rings.specs.Ring.{Rings}
-use Rattle.engine_rows.specs.Layout.{slotRow}
+use Rattle.engine_rows.specs.Layout.{slotRow, freeStatus, unrunStatus, runStatus}
 use Rattle.entry.specs.Entry.{eventAt}
 use Rattle.engine_records.specs.Records.{stateAt}
-use Rattle.engine_index.specs.Layout.{nodesOf, slotOf, linksAt, logAt, indexBytes}
+use Rattle.engine_index.specs.Layout.{unrunRing, runRing, freeRing, nodesOf, slotOf, linksAt, logAt, indexBytes}
 
 -- ---- the held events with their nodes
 
@@ -27,8 +27,8 @@ cell x h = record { node = x; held = h }
 
 -- the ring that an event is in
 abbrev pub ringOf : ℕ → Held → ℕ
-ringOf n (unrun x) = x .target
-ringOf n (ran x b) = n + x .target
+ringOf n (unrun x) = unrunRing (x .target)
+ringOf n (ran x b) = runRing n (x .target)
 
 abbrev pub hasRun : Held → Bool
 hasRun (unrun x) = false
@@ -41,7 +41,7 @@ nodesBy t (y ∷ ys) = cond (t (y .held)) (y .node ∷ nodesBy t ys) (nodesBy t 
 
 -- what stands in ring u: the free nodes, or the cells of a station
 unfoldable pub contents : ℕ → List Cell → List ℕ → ℕ → List ℕ
-contents n cells free u = cond (eqb u (2 * n)) free (nodesBy (λ h. eqb (ringOf n h) u) cells)
+contents n cells free u = cond (eqb u (freeRing n)) free (nodesBy (λ h. eqb (ringOf n h) u) cells)
 
 -- ---- what stands in a slot
 
@@ -49,17 +49,17 @@ abbrev pub statusAt : ℕ → ℕ → List ℕ → ℕ
 statusAt n x xs = loadAt 2 (slotRow n (slotOf n x) + 60) xs
 
 abbrev pub HeldAt : ℕ → List ℕ → ℕ → Held → Type 0
-HeldAt n xs x (unrun e) = (eventAt (slotRow n (slotOf n x)) xs ≡ e) × (statusAt n x xs ≡ 1)
+HeldAt n xs x (unrun e) = (eventAt (slotRow n (slotOf n x)) xs ≡ e) × (statusAt n x xs ≡ unrunStatus)
 HeldAt n xs x (ran e b) =
-    (eventAt (slotRow n (slotOf n x)) xs ≡ e) × (statusAt n x xs ≡ 2) × (stateAt (slotRow n (slotOf n x) + 24) xs ≡ b)
+    (eventAt (slotRow n (slotOf n x)) xs ≡ e) × (statusAt n x xs ≡ runStatus) × (stateAt (slotRow n (slotOf n x) + 24) xs ≡ b)
 
 abbrev pub Stored : ℕ → List ℕ → List Cell → Type 0
 Stored n xs [] = Unit
-Stored n xs (y ∷ ys) = HeldAt n xs (y .node) (y .held) × (2 * n < y .node) × (event (y .held) .target < n) × Stored n xs ys
+Stored n xs (y ∷ ys) = HeldAt n xs (y .node) (y .held) × (freeRing n < y .node) × (event (y .held) .target < n) × Stored n xs ys
 
 abbrev pub Free : ℕ → List ℕ → List ℕ → Type 0
 Free n xs [] = Unit
-Free n xs (x ∷ fs) = (statusAt n x xs ≡ 0) × (2 * n < x) × Free n xs fs
+Free n xs (x ∷ fs) = (statusAt n x xs ≡ freeStatus) × (freeRing n < x) × Free n xs fs
 
 -- each comes before all after it
 abbrev pub AllBefore : List Cell → Event → Type 0
@@ -79,7 +79,7 @@ pub record Stands (n c : ℕ) (xs : List ℕ) (cells : List Cell) (free : List �
   pub stations : n ≤ 256
   pub capacity : c ≤ 4096
   pub room : slotRow n 0 + indexBytes n c ≤ length xs
-  pub rings : Rings xs (linksAt n c) (nodesOf n c) (2 * n + 1) (contents n cells free)
+  pub rings : Rings xs (linksAt n c) (nodesOf n c) (freeRing n + 1) (contents n cells free)
   pub log : Rings xs (logAt n c) (nodesOf n c) 1 (λ _. nodesBy hasRun cells)
   pub stored : Stored n xs cells
   pub unused : Free n xs free

@@ -2,15 +2,15 @@
 use mathlib.Core.Path.{_≡_}
 use mathlib.Core.Logic.{_≢_}
 use mathlib.Core.List.{List}
-use Prim.Native.Nat.{ℕ, _+_, _*_, _<_}
+use Prim.Native.Nat.{ℕ, _+_, _<_}
 use lib.ListN.{length}
 use Rattle.words.specs.Le.{loadAt}
-use Rattle.engine_rows.specs.Layout.{slotRow}
+use Rattle.engine_rows.specs.Layout.{slotRow, numberPlace, statusNumber}
 use Rattle.engine_index.specs.Layout.{slotOf, IsSlot}
 
 -- each slot's numbers but the status, and the status of every slot but that of node x, are as they were
 pub record Spares (n c x : ℕ) (xs ys : List ℕ) : Type 0 where
-  pub numbers : (i k : ℕ) → i < c → k < 4 → k ≢ 2 → loadAt 2 (slotRow n i + 56 + 2 * k) ys ≡ loadAt 2 (slotRow n i + 56 + 2 * k) xs
+  pub numbers : (i k : ℕ) → i < c → k < 4 → k ≢ statusNumber → loadAt 2 (numberPlace n i k) ys ≡ loadAt 2 (numberPlace n i k) xs
   pub statuses : (i : ℕ) → i < c → i ≢ slotOf n x → loadAt 2 (slotRow n i + 60) ys ≡ loadAt 2 (slotRow n i + 60) xs
 
 -- where node x is a slot's, its status is v

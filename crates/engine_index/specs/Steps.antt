@@ -3,7 +3,7 @@ use mathlib.Core.Path.{_≡_}
 use mathlib.Core.Logic.{_⊎_}
 use mathlib.Core.Bool.{Bool, _||_}
 use mathlib.Core.List.{List}
-use Prim.Native.Nat.{ℕ, _+_, _*_}
+use Prim.Native.Nat.{ℕ, _+_}
 use lib.Dec.{eqb}
 use lib.ListN.{length}
 use Rattle.words.specs.Le.{storeAt}
@@ -11,9 +11,9 @@ use Rattle.line.specs.declared.Event.{Event}
 use Rattle.line.specs.Event.{before}
 use Rattle.rings.specs.Table.{prevOf, linkAfter, unlinked}
 use Rattle.rings.specs.Walk.{steps}
-use Rattle.engine_rows.specs.Layout.{slotRow}
+use Rattle.engine_rows.specs.Layout.{slotRow, freeStatus}
 use Rattle.entry.specs.Entry.{eventAt}
-use Rattle.engine_index.specs.Layout.{nodesOf, slotOf, linksAt, IsSlot}
+use Rattle.engine_index.specs.Layout.{freeRing, nodesOf, slotOf, linksAt, IsSlot}
 
 -- at the sentinel s, and at a node whose event comes before e
 unfoldable pub stopAt : List ℕ → ℕ → ℕ → Event → ℕ → Bool
@@ -23,9 +23,9 @@ stopAt xs n s e i = eqb i s || before (eventAt (slotRow n (slotOf n i)) xs) e
 unfoldable pub filed : List ℕ → ℕ → ℕ → ℕ → ℕ → Event → ℕ → List ℕ
 filed xs n o k s e x = linkAfter xs o k (steps (prevOf xs o) (stopAt xs n s e) k (prevOf xs o s)) x
 
--- node x put from its ring into the free ring, with status 0
+-- node x put from its ring into the free ring, and its slot free
 unfoldable pub freed : List ℕ → ℕ → ℕ → ℕ → ℕ → List ℕ
-freed xs n o k x = linkAfter (unlinked (storeAt 2 (slotRow n (slotOf n x) + 60) 0 xs) o k x) o k (2 * n) x
+freed xs n o k x = linkAfter (unlinked (storeAt 2 (slotRow n (slotOf n x) + 60) freeStatus xs) o k x) o k (freeRing n) x
 
 -- it is, where node x is a slot's; elsewhere nothing is done
 abbrev pub Frees : ℕ → ℕ → List ℕ → ℕ → List ℕ → Type 0

@@ -4,15 +4,15 @@
 // Of n stations and c slots: nodes 0 to n - 1 are the sentinels of the waiting rings, each with a station's unrun events in the event order; nodes n to
 // 2 n - 1 those of the run rings, each with its run events in that order; node 2 n that of the free ring; node 2 n + 1 + i is slot i. A second table of links
 // over the same nodes has the log: all run events in the event order, with node 0 as its sentinel. The links stand after the slots, the log's after those.
-// A slot's number 2 is its status: 0 free, 1 unrun, 2 run.
+// A slot's status (crate engine_rows) says which of these it is in.
 //
 // Each function takes any bytes and any numbers.
 
 ghost use mathlib.Core.Path.{_≡_};
-ghost use Prim.Native.Nat.{_%_, _≤_};
+ghost use Prim.Native.Nat.{_+_, _*_, _%_};
 ghost use lib.ListN.{length};
 ghost use Rattle.rings.specs.Table.{nextOf, prevOf};
-ghost use Rattle.engine_index.specs.Layout.{linksAt, logAt, runRing, freeRing, nodeOf, nodesOf, inRange, slotOf, FindsSlot};
+ghost use Rattle.engine_index.specs.Layout.{linksAt, runRing, freeRing, nodeOf, nodesOf, inRange, slotOf, slotIn, nextLogged};
 
 // ---- shape
 
@@ -33,16 +33,16 @@ pub fn links(n: u16, c: u16) -> u32
     64 + 128 * n as u32 + 64 * c as u32
 }
 
-// How many nodes there are, where the numbers are in range; no test of that is made here.
+// How many nodes there are; as 16 bits hold it.
 pub fn nodes(n: u16, c: u16) -> u16
-    ensures { λ r. ⌜ ((n ≤ 256) → (c ≤ 4096) → r ≡ nodesOf n c) ⌝ }
+    ensures { λ r. ⌜ r ≡ nodesOf n c % 65536 ⌝ }
 {
     ((2 * n as u32 + 1 + c as u32) % 65536) as u16
 }
 
-// Where the log's links start, where the numbers are in range.
+// Where the log's links start, after those of so many nodes.
 pub fn log(n: u16, c: u16) -> u32
-    ensures { λ r. ⌜ ((n ≤ 256) → (c ≤ 4096) → r ≡ logAt n c) ⌝ }
+    ensures { λ r. ⌜ r ≡ linksAt n c + 4 * (nodesOf n c % 65536) ⌝ }
 {
     links(n, c) + 4 * nodes(n, c) as u32
 }
@@ -78,10 +78,10 @@ pub fn slot(n: u16, x: u16) -> u16
     (x as u32 - first) as u16
 }
 
-// The slot of node x; c or more where that is no slot's, or the index does not lie whole in the buffer. Where it is below c, the compiler leaves out the
-// tests of the loads and stores in that slot and its links.
+// The slot of node x; c where x is a sentinel, or the index does not lie whole in the buffer; more than that where x is no node. Where it is below c, the
+// compiler leaves out the tests of the loads and stores in that slot and its links.
 pub fn slot_in(b: &[u8], n: u16, c: u16, x: u16) -> u16
-    ensures { λ r. ⌜ FindsSlot n c (length (now (b .entry))) x r ⌝ }
+    ensures { λ r. ⌜ r ≡ slotIn n c (length (now (b .entry))) x ⌝ }
 {
     if in_range(n, c) {
         if log(n, c) as usize + 4 * nodes(n, c) as usize <= b.len() {
@@ -110,7 +110,7 @@ pub fn prev(b: &[u8], n: u16, c: u16, x: u16) -> u16
 
 // The node after node x in the log; 0 where the numbers are out of range.
 pub fn next_logged(b: &[u8], n: u16, c: u16, x: u16) -> u16
-    ensures { λ r. ⌜ ((n ≤ 256) → (c ≤ 4096) → r ≡ nextOf (now (b .entry)) (logAt n c) x) ⌝ }
+    ensures { λ r. ⌜ r ≡ nextLogged (now (b .entry)) n c x ⌝ }
 {
     if in_range(n, c) {
         return rings::next(b, log(n, c), x);

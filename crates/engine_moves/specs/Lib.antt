@@ -1,3 +1,4 @@
 pub mod Promises
+pub mod Answers
 pub mod Steps
 pub mod RunCount

@@ -12,6 +12,7 @@ ghost use Rattle.engine_moves.specs.RunCount.{runsBelow};
 ghost use Rattle.engine_events.specs.Represents.{calendarAt};
 ghost use Rattle.refusal.specs.Tests.{calendarBytes};
 ghost use Rattle.engine_events.specs.Promises.{AfterHeader};
+ghost use Rattle.engine_moves.specs.Answers.{heldNode, hasRunAt};
 ghost use Rattle.engine_moves.specs.Steps.{Tells};
 ghost use Rattle.engine_moves.specs.Promises.{HoldsEvent, RunsEvent, UnrunsEvent, DiscardsEvent, ReleasesEvent, Raises, ClearsEvents};
 use line::Event;
@@ -27,8 +28,8 @@ fn tell(b: &mut [u8], n: u16, c: u16, s: u16)
 {
     let start = engine_events::calendar_start(n, c) as usize;
     let end = start + 32768 + 64 * n as usize;
-    let x = engine_index::next(b, n, c, s);
-    if x == s {
+    let x = engine_ends::first_unrun(b, n, c, s);
+    if x == 0 {
         calendar::unregister(&mut b[start..end], s as u64);
         return;
     }
@@ -38,10 +39,11 @@ fn tell(b: &mut [u8], n: u16, c: u16, s: u16)
 
 // ---- the changes
 
-// An event is held, unrun. Answers its node.
+// An event is held, unrun. Answers its node; 0 where no slot is free, the numbers are out of range, the buffer is too short or the target is no station.
 pub fn hold(b: &mut [u8], n: u16, c: u16, e: Event) -> u16
     ensures frame { λ _. ⌜ AfterHeader (now (b .entry)) (now (b .exit)) ⌝ }
     ensures takes { λ r. ⌜ HoldsEvent n c (now (b .entry)) e r (now (b .exit)) ⌝ }
+    ensures answer { λ r. ⌜ r ≡ heldNode (now (b .entry)) n c e ⌝ }
 {
     if engine_events::fits(b, n, c) {
         let t = e.target;
@@ -68,8 +70,8 @@ pub fn run(b: &mut [u8], n: u16, c: u16, x: u16, after: State, first: u16, secon
             let t = e.target;
             if t < n {
                 let v = engine_rows::state(b, n, t);
-                engine_rows::set_number(b, n, i, 0, first);
-                engine_rows::set_number(b, n, i, 1, second);
+                engine_rows::set_number(b, n, i, engine_rows::FIRST_SEND, first);
+                engine_rows::set_number(b, n, i, engine_rows::SECOND_SEND, second);
                 engine_filing::mark(b, n, c, x, v);
                 engine_rows::set_state(b, n, t, after);
                 tell(b, n, c, t);
@@ -85,11 +87,12 @@ pub fn unrun(b: &mut [u8], n: u16, c: u16, x: u16) -> bool
     ensures none { λ r. ⌜ (r ≡ false → now (b .exit) ≡ now (b .entry)) ⌝ }
     ensures fewer { λ r. ⌜ (r ≡ true → 1 + runsBelow n (now (b .exit)) c ≤ runsBelow n (now (b .entry)) c) ⌝ }
     ensures unruns { λ r. ⌜ UnrunsEvent n c (now (b .entry)) x r (now (b .exit)) ⌝ }
+    ensures answer { λ r. ⌜ r ≡ hasRunAt (now (b .entry)) n c x ⌝ }
 {
     if engine_events::fits(b, n, c) {
         let i = engine_index::slot_in(b, n, c, x);
         if i < c {
-            if engine_rows::number(b, n, i, 2) == 2 {
+            if engine_rows::number(b, n, i, engine_rows::STATUS) == engine_rows::RUN {
                 let e = engine_rows::event(b, n, i);
                 let t = e.target;
                 if t < n {

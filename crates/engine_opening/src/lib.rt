@@ -57,10 +57,10 @@ pub fn open(plan: &[u8], width: u64, capacity: u64, b: &mut [u8]) -> OpenAnswer
             }
             let m = n as u16;
             begin_stations(plan, b, m);
-            engine_rows::set_header(b, 0, n as u64);
-            engine_rows::set_header(b, 1, capacity);
-            engine_rows::set_header(b, 2, 0);
-            engine_rows::set_header(b, 3, 0);
+            engine_rows::set_header(b, engine_rows::STATIONS, n as u64);
+            engine_rows::set_header(b, engine_rows::CAPACITY, capacity);
+            engine_rows::set_header(b, engine_rows::COMMIT_TIME, 0);
+            engine_rows::set_header(b, engine_rows::NEXT_POST, 0);
             engine_moves::clear(b, m, capacity as u16, width);
             OpenAnswer::Done
         }

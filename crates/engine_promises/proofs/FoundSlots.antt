@@ -7,7 +7,8 @@ use lib.ListN.{length}
 use Rattle.line.specs.declared.Event.{Event}
 use Rattle.engine_rows.specs.Layout.{slotRow}
 use Rattle.entry.specs.Entry.{eventAt}
-use Rattle.engine_index.specs.Layout.{slotOf, IsSlot, FindsSlot}
+use Rattle.engine_index.specs.Layout.{slotOf, IsSlot}
+use Rattle.engine_index.proofs.Places.FoundSlot.{FindsSlot}
 use Rattle.engine_index.specs.Represents.{Cell, Stands}
 use Rattle.engine_events.specs.Represents.{Has}
 use Rattle.engine_moves.proofs.Cells.Members.{member}

@@ -8,7 +8,7 @@ ghost use Rattle.engine_promises.specs.Steps.{atMost};
 pub fn stations(b: &[u8]) -> u16
     ensures { λ r. ⌜ r ≡ atMost 256 (loadAt 8 0 (now (b .entry))) ⌝ }
 {
-    let n = engine_rows::header(b, 0);
+    let n = engine_rows::header(b, engine_rows::STATIONS);
     if 256 < n {
         return 257;
     }
@@ -19,7 +19,7 @@ pub fn stations(b: &[u8]) -> u16
 pub fn capacity(b: &[u8]) -> u16
     ensures { λ r. ⌜ r ≡ atMost 4096 (loadAt 8 8 (now (b .entry))) ⌝ }
 {
-    let c = engine_rows::header(b, 1);
+    let c = engine_rows::header(b, engine_rows::CAPACITY);
     if 4096 < c {
         return 4097;
     }

@@ -1,4 +1,4 @@
--- What the run ring of a station ends with: the latest run event of the station, or its sentinel where none is run.
+-- The last run node of a station is that of its latest run event; 0 where none is run.
 use mathlib.Core.Path.{_≡_, refl, sym, ap, _∙_, subst}
 use mathlib.Core.Logic.{_≢_}
 use mathlib.Core.Bool.{false}
@@ -14,13 +14,13 @@ use Rattle.rules.specs.Held.{Held, unrun, ran, event, In}
 use Rattle.rules.specs.Undo.{NoneLater}
 use Rattle.rules.specs.Replay.{NoRun}
 use Rattle.rules.proofs.Replay.Neat.{in-run}
-use Rattle.rings.specs.Table.{prevOf}
 use Rattle.engine_rows.specs.Layout.{slotRow}
 use Rattle.entry.specs.Entry.{eventAt}
-use Rattle.engine_index.specs.Layout.{linksAt, slotOf}
+use Rattle.engine_index.specs.Layout.{runRing, slotOf}
 use Rattle.engine_index.specs.Represents.{Cell, cell, ringOf, HeldAt, Stored, AllAfter, Sorted, Stands, NoneIn}
-use Rattle.engine_index.proofs.Rings.RingEnds.{last-in, prev-none}
 use Rattle.engine_index.proofs.Rings.RingSearches.{Last, lastNone, lastSome, last}
+use Rattle.engine_ends.specs.Ends.{lastRun}
+use Rattle.engine_ends.proofs.Ends.{last-run-none, last-run-is}
 use Rattle.engine_events.specs.Represents.{Has, heldOf}
 
 -- ---- what stands at a cell's node
@@ -41,13 +41,13 @@ event-of n xs x (ran e b) a = a .0
 
 -- ---- the end of the ring
 
--- no cell of the list is in ring n + s, so no event of s is run
-none-in : (n s : ℕ) (e : Event) (b : State) (cells : List Cell) → NoneIn n (n + s) cells → In (ran e b) (heldOf cells) → e .target ≢ s
-none-in n s e b (y ∷ ys) z (List·Memᴰ·head q) t = z .0 (subst (λ h. ringOf n h ≡ n + s) q (ap (λ k. n + k) t))
+-- no cell of the list is in the ring of run events, so no event of s is run
+none-in : (n s : ℕ) (e : Event) (b : State) (cells : List Cell) → NoneIn n (runRing n s) cells → In (ran e b) (heldOf cells) → e .target ≢ s
+none-in n s e b (y ∷ ys) z (List·Memᴰ·head q) t = z .0 (subst (λ h. ringOf n h ≡ runRing n s) q (ap (runRing n) t))
 none-in n s e b (y ∷ ys) z (List·Memᴰ·tail m) t = none-in n s e b ys (z .1) m t
 
 -- a run event of s stands at y or in front of it
-in-front : (n s : ℕ) (A : List Cell) (y : Cell) (B : List Cell) → Sorted (A ++ y ∷ B) → NoneIn n (n + s) B → (z : Event) (a : State)
+in-front : (n s : ℕ) (A : List Cell) (y : Cell) (B : List Cell) → Sorted (A ++ y ∷ B) → NoneIn n (runRing n s) B → (z : Event) (a : State)
     → In (ran z a) (heldOf (A ++ y ∷ B)) → z .target ≡ s → before (event (y .held)) z ≡ false
 in-front n s [] y B o k z a (List·Memᴰ·head q) t = subst (λ h. before (event h) z ≡ false) q (irr z .is)
 in-front n s [] y B o k z a (List·Memᴰ·tail m) t = absurd (none-in n s z a B k m t)
@@ -59,28 +59,28 @@ in-front n s (w ∷ A) y B o k z a (List·Memᴰ·head q) t =
     reaches (v ∷ A) r = reaches A (r .1)
 in-front n s (w ∷ A) y B o k z a (List·Memᴰ·tail m) t = in-front n s A y B (o .1) k z a m t
 
--- x is the last of the run ring of station s
+-- x is the last run node of station s
 pub data Top (n s x : ℕ) (cells : List Cell) : Type 0 where
-  empty : x ≡ n + s → NoRun s (heldOf cells) → Top n s x cells
+  empty : x ≡ 0 → NoRun s (heldOf cells) → Top n s x cells
   latest : (e : Event) (b : State) → Has (cell x (ran e b)) cells → e .target ≡ s → NoneLater e (heldOf cells) → Top n s x cells
 
 in-middle : (A : List Cell) (y : Cell) (B : List Cell) → Has y (A ++ y ∷ B)
 in-middle [] y B = List·Memᴰ·head refl
 in-middle (z ∷ A) y B = List·Memᴰ·tail (in-middle A y B)
 
-pub top : {n c s : ℕ} {xs : List ℕ} {cells : List Cell} {free : List ℕ} → Stands n c xs cells free → s < n → Top n s (prevOf xs (linksAt n c) (n + s)) cells
-top {n} {c} {s} {xs} {cells} {free} S l = go (last n (n + s) cells) S
+pub top : {n c s : ℕ} {xs : List ℕ} {cells : List Cell} {free : List ℕ} → Stands n c xs cells free → s < n → Top n s (lastRun xs n c s) cells
+top {n} {c} {s} {xs} {cells} {free} S l = go (last n (runRing n s) cells) S
   where
-    found : (A : List Cell) (x : ℕ) (h : Held) (B : List Cell) → Stands n c xs (A ++ cell x h ∷ B) free → NoneIn n (n + s) B → ringOf n h ≡ n + s
+    found : (A : List Cell) (x : ℕ) (h : Held) (B : List Cell) → Stands n c xs (A ++ cell x h ∷ B) free → NoneIn n (runRing n s) B → ringOf n h ≡ runRing n s
         → event h .target < n → Top n s x (A ++ cell x h ∷ B)
     found A x (unrun e) B T z q k = absurd (omega (arith, q, k))
     found A x (ran e b) B T z q k =
         let t : e .target ≡ s = omega (arith, q) in
         latest e b (in-middle A (cell x (ran e b)) B) t (λ w a m u. in-front n s A (cell x (ran e b)) B (T .sorted) z w a m (u ∙ t))
 
-    go : {cells : List Cell} → Last n (n + s) cells → Stands n c xs cells free → Top n s (prevOf xs (linksAt n c) (n + s)) cells
+    go : {cells : List Cell} → Last n (runRing n s) cells → Stands n c xs cells free → Top n s (lastRun xs n c s) cells
     go (lastNone {cells = cells} z) T =
-        empty (prev-none T (n + s) (omega arith) z) (in-run (λ e b. e .target ≢ s) (heldOf cells) (λ e b m. none-in n s e b cells z m))
+        empty (last-run-none T s l z) (in-run (λ e b. e .target ≢ s) (heldOf cells) (λ e b m. none-in n s e b cells z m))
     go (lastSome A y B z q) T =
-        subst (λ k. Top n s k (A ++ y ∷ B)) (sym (subst (λ u. prevOf xs (linksAt n c) u ≡ y .node) q (last-in A y B T (subst (λ u. NoneIn n u B) (sym q) z))))
+        subst (λ k. Top n s k (A ++ y ∷ B)) (sym (last-run-is A y B T s l q z))
         (found A (y .node) (y .held) B T z q (placed (T .stored) (in-middle A y B) .inside))

@@ -18,16 +18,16 @@ use Rattle.rules.specs.Replay.{Clear}
 use Rattle.rules.proofs.Undo.Fuel.{undo-none, undo-some}
 use Rattle.rules.proofs.Replay.Neat.{in-run, run-in, is-latest}
 use Rattle.rules.proofs.Undo.Agree.{clear-none, latest-found}
-use Rattle.rings.specs.Table.{prevOf}
 use Rattle.engine_rows.specs.Layout.{slotRow}
 use Rattle.entry.specs.Entry.{eventAt}
-use Rattle.engine_index.specs.Layout.{linksAt, slotOf}
+use Rattle.engine_index.specs.Layout.{slotOf}
 use Rattle.engine_index.specs.Represents.{Cell, cell}
 use Rattle.engine_events.specs.Represents.{Has, From, heldOf}
 use Rattle.engine_rollback.specs.BetweenSteps.{Mid, RollsTo}
 use Rattle.engine_rollback.specs.Promises.{Undoes, UndoesFrom}
 use Rattle.engine_rollback.proofs.Cells.{has-held, from-same, from-on}
 use Rattle.engine_rollback.proofs.OrderKept.{Left, undo-left}
+use Rattle.engine_ends.specs.Ends.{lastRun}
 use Rattle.engine_rollback.proofs.LatestRun.{Top, empty, latest, top, placed, event-of}
 
 -- so far k events are undone, and what the bytes hold leaves the rest to undo
@@ -60,30 +60,30 @@ pub test-at : (n x : ℕ) (ys : List ℕ) (e : Event) {i : ℕ} {u v : Bool} →
 test-at n x ys e a j k = ap (λ (i : ℕ). before (eventAt (slotRow n i) ys) e) (sym a) ∙ sym j ∙ k
 
 module _ {n c s : ℕ} {ys : List ℕ} (l : s < n) where
-  topmost : {x : ℕ} → x ≡ prevOf ys (linksAt n c) (n + s)
+  topmost : {x : ℕ} → x ≡ lastRun ys n c s
       → {p : Plan} {now : ℕ} {q : Queue} {cells : List Cell} {ws : List Event} {st : States} → Mid p n c now ys q cells ws st → Top n s x cells
   topmost {x} a {cells = cells} M = rw a (top (M .holds .stores .stands) l)
 
-  -- a node of a cell is no sentinel
-  not-sentinel : {x : ℕ} {p : Plan} {now : ℕ} {q : Queue} {cells : List Cell} {ws : List Event} {st : States} {f : Event} {b : State}
-      → Mid p n c now ys q cells ws st → Has (cell x (ran f b)) cells → x ≢ n + s
-  not-sentinel M m t = omega (arith, placed (M .holds .stores .stands .stored) m .beyond, t, l)
+  -- a node of a cell is not 0
+  not-zero : {x : ℕ} {p : Plan} {now : ℕ} {q : Queue} {cells : List Cell} {ws : List Event} {st : States} {f : Event} {b : State}
+      → Mid p n c now ys q cells ws st → Has (cell x (ran f b)) cells → x ≢ 0
+  not-zero M m t = omega (arith, placed (M .holds .stores .stands .stored) m .beyond, t)
 
   event-at : {x : ℕ} {p : Plan} {now : ℕ} {q : Queue} {cells : List Cell} {ws : List Event} {st : States} {f : Event} {b : State}
       → Mid p n c now ys q cells ws st → Has (cell x (ran f b)) cells → eventAt (slotRow n (slotOf n x)) ys ≡ f
   event-at {x} {f = f} {b = b} M m = event-of n ys x (ran f b) (placed (M .holds .stores .stands .stored) m .held)
 
   module _ (e : Event) where
-    pub ended-empty : {x : ℕ} → x ≡ prevOf ys (linksAt n c) (n + s) → x ≡ n + s → Ended n c s e ys
+    pub ended-empty : {x : ℕ} → x ≡ lastRun ys n c s → x ≡ 0 → Ended n c s e ys
     ended-empty {x} a t p now q cells ws st M = go (topmost a M)
       where
         go : Top n s x cells → Clear s e (q .held)
         go (empty _ z) =
             in-run (λ y b. y .target ≡ s → Lt y e) (q .held)
             (λ y b m u. absurd (run-in (λ w d. w .target ≢ s) y b (heldOf cells) (subst (λ h. In (ran y b) h) (sym (M .holds .stores .held)) m) z u))
-        go (latest f b m u k) = absurd (not-sentinel M m t)
+        go (latest f b m u k) = absurd (not-zero M m t)
 
-    pub ended-before : {x : ℕ} → x ≡ prevOf ys (linksAt n c) (n + s) → x ≢ n + s → before (eventAt (slotRow n (slotOf n x)) ys) e ≡ true → Ended n c s e ys
+    pub ended-before : {x : ℕ} → x ≡ lastRun ys n c s → x ≢ 0 → before (eventAt (slotRow n (slotOf n x)) ys) e ≡ true → Ended n c s e ys
     ended-before {x} a d t p now q cells ws st M = go (topmost a M)
       where
         go : Top n s x cells → Clear s e (q .held)
@@ -94,7 +94,7 @@ module _ {n c s : ℕ} {ys : List ℕ} (l : s < n) where
             (record { is = subst (λ g. before g e ≡ true) (event-at M m) t }))
 
     -- one more event is undone
-    module _ {x : ℕ} (a : x ≡ prevOf ys (linksAt n c) (n + s)) (d : x ≢ n + s) (t : before (eventAt (slotRow n (slotOf n x)) ys) e ≡ false) where
+    module _ {x : ℕ} (a : x ≡ lastRun ys n c s) (d : x ≢ 0) (t : before (eventAt (slotRow n (slotOf n x)) ys) e ≡ false) where
       pub turn : {k : ℕ} {zs : List ℕ} → Undoes n c ys x k zs
           → {p : Plan} {now : ℕ} {q : Queue} {cells : List Cell} {ws : List Event} {st : States} → Mid p n c now ys q cells ws st
           → Going p n c now s e k q cells zs ws st × (1 ≤ k)

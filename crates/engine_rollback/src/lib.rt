@@ -6,6 +6,7 @@
 // undone), so they are at most n deep.
 
 ghost use mathlib.Core.Path.{_≡_};
+ghost use mathlib.Core.Logic.{_⊎_};
 ghost use mathlib.Core.Bool.{true};
 ghost use Prim.Native.Nat.{_+_, _≤_, _<_};
 ghost use Rattle.engine_moves.specs.RunCount.{runsBelow};
@@ -44,8 +45,8 @@ fn undo_from(b: &mut [u8], n: u16, c: u16, s: u16, e: Event) -> u64
 {
     let mut count: u64 = 0;
     loop {
-        let x = engine_index::prev(b, n, c, n + s);
-        if x == n + s {
+        let x = engine_ends::last_run(b, n, c, s);
+        if x == 0 {
             return count;
         }
         if engine_rows::before(b, n, engine_index::slot(n, x), e) {
@@ -98,8 +99,8 @@ fn settled(b: &[u8], n: u16, c: u16, s: u16, e: Event) -> bool
     requires { ⌜ (n ≤ 256) × (s < n) ⌝ }
     ensures { λ r. ⌜ (r ≡ true → UndoesFrom n c (now (b .entry)) s e 0 (now (b .entry))) ⌝ }
 {
-    let x = engine_index::prev(b, n, c, n + s);
-    if x == n + s {
+    let x = engine_ends::last_run(b, n, c, s);
+    if x == 0 {
         return true;
     }
     engine_rows::before(b, n, engine_index::slot(n, x), e)
@@ -124,11 +125,12 @@ pub struct Added {
     pub undone: u64,
 }
 
-// An event is added.
+// An event is added. Nothing is done, and the answer is 0 and 0, where its target is n or more, or n over 256.
 pub fn add(b: &mut [u8], n: u16, c: u16, e: Event) -> Added
     ensures frame { λ _. ⌜ AfterHeader (now (b .entry)) (now (b .exit)) ⌝ }
     ensures few { λ r. ⌜ r .undone ≤ c ⌝ }
     ensures adds { λ r. ⌜ Adds n c (now (b .entry)) e (r .node) (r .undone) (now (b .exit)) ⌝ }
+    ensures none { λ r. ⌜ ((n ≤ e .target) ⊎ (256 < n) → (r .node ≡ 0) × (r .undone ≡ 0) × (now (b .exit) ≡ now (b .entry))) ⌝ }
 {
     let t = e.target;
     if n <= t {

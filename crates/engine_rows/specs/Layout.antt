@@ -8,3 +8,46 @@ stationRow n s = 64 + 128 * s
 -- the row of slot i
 abbrev pub slotRow : ℕ → ℕ → ℕ
 slotRow n i = 64 + 128 * n + 64 * i
+
+-- ---- the header's words
+
+abbrev pub stationsWord : ℕ
+stationsWord = 0
+
+abbrev pub capacityWord : ℕ
+capacityWord = 1
+
+abbrev pub commitWord : ℕ
+commitWord = 2
+
+abbrev pub postWord : ℕ
+postWord = 3
+
+-- where word i stands
+abbrev pub wordPlace : ℕ → ℕ
+wordPlace i = 8 * i
+
+-- ---- a slot's numbers: the nodes of its event's two sends, and its status
+
+abbrev pub firstSend : ℕ
+firstSend = 0
+
+abbrev pub secondSend : ℕ
+secondSend = 1
+
+abbrev pub statusNumber : ℕ
+statusNumber = 2
+
+-- where number k of slot i stands
+abbrev pub numberPlace : ℕ → ℕ → ℕ → ℕ
+numberPlace n i k = slotRow n i + 56 + 2 * k
+
+-- the statuses
+abbrev pub freeStatus : ℕ
+freeStatus = 0
+
+abbrev pub unrunStatus : ℕ
+unrunStatus = 1
+
+abbrev pub runStatus : ℕ
+runStatus = 2

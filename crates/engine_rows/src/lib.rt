@@ -6,21 +6,30 @@
 // links (crate engine_index), and after those the calendar's part (crate engine_events).
 
 ghost use mathlib.Core.Path.{_≡_};
-ghost use Prim.Native.Nat.{_+_, _*_, _≤_, _<_};
+ghost use Prim.Native.Nat.{_+_, _≤_, _<_};
 ghost use Rattle.line.specs.Event.{before as isBefore};
 ghost use Rattle.words.specs.Le.{loadAt, storeAt};
 ghost use Rattle.entry.specs.Entry.{eventAt, putEvent};
 ghost use Rattle.engine_records.specs.Records.{stateAt, putState, storedConfig, putConfig};
-ghost use Rattle.engine_rows.specs.Layout.{stationRow, slotRow};
+ghost use Rattle.engine_rows.specs.Layout.{stationRow, slotRow, wordPlace, numberPlace};
 use line::Config;
 use line::Event;
 use line::State;
 
 // ---- the header
 
+// Its words.
+pub const STATIONS: u16 = 0;
+
+pub const CAPACITY: u16 = 1;
+
+pub const COMMIT_TIME: u16 = 2;
+
+pub const NEXT_POST: u16 = 3;
+
 // Word i of the header; 0 where there is none.
 pub fn header(b: &[u8], i: u16) -> u64
-    ensures { λ r. ⌜ (i < 8 → r ≡ loadAt 8 (8 * i) (now (b .entry))) × (8 ≤ i → r ≡ 0) ⌝ }
+    ensures { λ r. ⌜ (i < 8 → r ≡ loadAt 8 (wordPlace i) (now (b .entry))) × (8 ≤ i → r ≡ 0) ⌝ }
 {
     if 8 <= i {
         return 0;
@@ -29,7 +38,7 @@ pub fn header(b: &[u8], i: u16) -> u64
 }
 
 pub fn set_header(b: &mut [u8], i: u16, v: u64)
-    ensures { λ _. ⌜ (i < 8 → now (b .exit) ≡ storeAt 8 (8 * i) v (now (b .entry))) × (8 ≤ i → now (b .exit) ≡ now (b .entry)) ⌝ }
+    ensures { λ _. ⌜ (i < 8 → now (b .exit) ≡ storeAt 8 (wordPlace i) v (now (b .entry))) × (8 ≤ i → now (b .exit) ≡ now (b .entry)) ⌝ }
 {
     if 8 <= i {
         return;
@@ -125,9 +134,23 @@ pub fn set_saved(b: &mut [u8], n: u16, i: u16, v: State)
     engine_records::write_state(b, slot_row(n, i) + 24, v);
 }
 
-// Number k of a slot, 0 to 3: the slots of its two sends, its status, and one that is free; 0 where there is none.
+// The numbers of a slot: the nodes of its event's two sends, and its status; one more, 3, is free.
+pub const FIRST_SEND: u16 = 0;
+
+pub const SECOND_SEND: u16 = 1;
+
+pub const STATUS: u16 = 2;
+
+// The statuses.
+pub const FREE: u16 = 0;
+
+pub const UNRUN: u16 = 1;
+
+pub const RUN: u16 = 2;
+
+// Number k of a slot; 0 where there is none.
 pub fn number(b: &[u8], n: u16, i: u16, k: u16) -> u16
-    ensures { λ r. ⌜ (k < 4 → r ≡ loadAt 2 (slotRow n i + 56 + 2 * k) (now (b .entry))) × (4 ≤ k → r ≡ 0) ⌝ }
+    ensures { λ r. ⌜ (k < 4 → r ≡ loadAt 2 (numberPlace n i k) (now (b .entry))) × (4 ≤ k → r ≡ 0) ⌝ }
 {
     if 4 <= k {
         return 0;
@@ -136,7 +159,7 @@ pub fn number(b: &[u8], n: u16, i: u16, k: u16) -> u16
 }
 
 pub fn set_number(b: &mut [u8], n: u16, i: u16, k: u16, v: u16)
-    ensures { λ _. ⌜ (k < 4 → now (b .exit) ≡ storeAt 2 (slotRow n i + 56 + 2 * k) v (now (b .entry))) × (4 ≤ k → now (b .exit) ≡ now (b .entry)) ⌝ }
+    ensures { λ _. ⌜ (k < 4 → now (b .exit) ≡ storeAt 2 (numberPlace n i k) v (now (b .entry))) × (4 ≤ k → now (b .exit) ≡ now (b .entry)) ⌝ }
 {
     if 4 <= k {
         return;

@@ -1,5 +1,5 @@
 -- The calendar names the station.
-use mathlib.Core.Path.{refl}
+use mathlib.Core.Path.{refl, sym, _∙_}
 use native.Mathlib.Omega.{arith}
 use Rattle.engine_events.proofs.Fitting.{fits-true, calendar-room}
 use Rattle.engine_events.proofs.LeastStation.{finds, nothing-fits, nothing-slot, finds-none}
@@ -20,7 +20,8 @@ part-lowest-end c =
 returns : tie.Need-returns
 returns c =
     let args = c .before .before .before .before .before .before .before .args in
-    finds (args .n) (args .c) _ (c .before .before .calendar-start .ensures) refl (c .lowest .ensures)
+    let fit = sym (c .before .before .before .before .before .fits2 .ensures) ∙ c .before .before .before .before .if1 .taken in
+    finds (args .n) (args .c) _ (c .before .before .calendar-start .ensures) refl fit (c .lowest .ensures)
 
 returns-2 : tie.Need-returns-2
 returns-2 c =

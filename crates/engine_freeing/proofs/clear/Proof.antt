@@ -1,8 +1,9 @@
 -- Rings are emptied, the slots go into the free ring, and the log is emptied.
+use native.Mathlib.Omega.{arith}
 use Prim.Native.Nat.{_≤_}
 use borrow.Author.Needs.{needs}
 use Rattle.engine_freeing.proofs.Clearing.{clear-made, clear-none}
-use Rattle.engine_index.proofs.Places.Refusals.{range-true}
+use Rattle.engine_index.proofs.Places.Range.{range-true, log-in, nodes-in, node-in}
 use Rattle.engine_freeing.proofs.clear.Statement.{statement}
 use Rattle.engine_freeing.proofs.clear.Tie as tie
 
@@ -15,7 +16,7 @@ abbrev ranged : tie.After-nodes → tie.Then1
 ranged c = c .before .before
 
 abbrev sized : tie.After-empty-rings → tie.After-nodes
-sized c = c .before .before
+sized c = c .before .before .before
 
 -- the numbers are in range
 range : (c : tie.Then1) → (start c .args .n ≤ 256) × (start c .args .c ≤ 4096)
@@ -28,8 +29,8 @@ returns c =
     let k = sized e in
     let f = ranged k in
     let r = range f in
-    clear-made (start f .args .n) (start f .args .c) _ (k .before .links .ensures) (k .nodes .ensures (r .0) (r .1)) (e .empty-rings .ensures)
-    (s .free-slots .ensures) (c .before .before .before .log .ensures (r .0) (r .1)) (c .before .before .make-empty .ensures)
+    clear-made (start f .args .n) (start f .args .c) _ (k .before .links .ensures) (nodes-in _ _ (r .0) (r .1) (k .nodes .ensures)) (node-in _ _ (r .0) (r .1) 0 (omega arith) (e .before .node-of .ensures)) (e .empty-rings .ensures)
+    (s .free-slots .ensures) (log-in _ _ (r .0) (r .1) (c .before .before .before .log .ensures)) (c .before .before .make-empty .ensures)
 
 returns-2 : tie.Need-returns-2
 returns-2 c = clear-none (c .before .before .before .args .n) (c .before .before .before .args .c) _ (c .before .in-range .ensures) (c .if1 .left)
@@ -41,8 +42,7 @@ clear-spec =
     (λ c κs. search needs)
     (λ c κs. search needs)
     (λ c κs. search needs)
-    (λ c. let r = range (ranged (c .before)) in search needs)
-    (λ c. let r = range (ranged (c .before)) in search needs)
+    (λ c κs. search needs)
     (λ c κs. search needs)
     (λ c κs. range (ranged (sized (c .before .before .before))))
     (λ c κs. search needs)

@@ -7,6 +7,7 @@ use denote.Ref.{now}
 use lib.ListN.{length}
 use lib.Dec.{lit<}
 use Rattle.engine_index.specs.Opening.{filled}
+use Rattle.engine_index.proofs.Places.Range.{node-in}
 use Rattle.engine_freeing.proofs.Clearing.{filled-none, filled-on, at-end}
 use Rattle.engine_freeing.proofs.free_slots.Statement.{statement}
 use Rattle.engine_freeing.proofs.free_slots.Tie as tie
@@ -20,12 +21,25 @@ abbrev μ-loop : tie.MeasureT-loop
 loop-holds : tie.Need-loop-holds Inv-loop μ-loop
 loop-holds c = (omega arith, refl, filled-none _ _ _ _)
 
+sub-insert-after : tie.Need-sub-insert-after Inv-loop μ-loop
+sub-insert-after c =
+    let x = c .before .before .before .before .before in
+    let t = x .before in
+    let p = t .before .before .before .pre in
+    omega (arith, node-in _ _ (p .0) (p .1) _ (omega (arith, t .loop-test .taken)) (x .node-of .ensures))
+
 loop-again : tie.Need-loop-again Inv-loop μ-loop
 loop-again c =
     let s = c .before .before .before .before .before .before in
-    let l = s .before .before .before .loop .inv in
+    let x = s .before .before in
+    let t = x .before in
+    let l = t .before .loop .inv in
     let i = c .before .before .insert-after in
-    (omega arith, i .kept .0 ∙ s .set-number .kept .0 ∙ l .1, filled-on _ _ _ _ _ (l .2) (s .set-number .ensures .0 (lit< tt)) (i .ensures))
+    let p = t .before .before .before .pre in (
+      omega arith,
+      i .kept .0 ∙ s .set-number .kept .0 ∙ l .1,
+      filled-on _ _ _ _ _ (l .2) (s .set-number .ensures .0 (lit< tt)) (node-in _ _ (p .0) (p .1) _ (omega (arith, t .loop-test .taken)) (x .node-of .ensures)) (i .ensures),
+    )
 
 returns : tie.Need-returns Inv-loop μ-loop
 returns c =
@@ -41,11 +55,8 @@ free-slots-spec =
     μ-loop
     loop-holds
     (λ c κs. search needs)
-    (λ c. omega arith)
-    (λ c. omega arith)
-    (λ c. omega arith)
-    (λ c. omega arith)
-    (λ c. omega arith)
+    (λ c κs. search needs)
+    sub-insert-after
     (λ c κs. search needs)
     (λ c. omega arith)
     (λ c. omega arith)

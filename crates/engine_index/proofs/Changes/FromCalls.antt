@@ -1,5 +1,5 @@
 -- From what the calls of a function ensure, in their order, to the change that it makes.
-use mathlib.Core.Path.{_≡_, sym, _∙_}
+use mathlib.Core.Path.{_≡_, sym, ap, _∙_}
 use mathlib.Core.Logic.{_≢_, inl, inr}
 use mathlib.Core.Bool.{Bool, true}
 use mathlib.Core.List.{List}
@@ -19,11 +19,12 @@ use Rattle.rings.proofs.Confined.{unlink-frame}
 use Rattle.engine_rows.specs.Layout.{slotRow}
 use Rattle.entry.specs.Entry.{eventAt, putEvent}
 use Rattle.engine_records.specs.Records.{putState}
-use Rattle.engine_index.specs.Layout.{linksAt, logAt, nodesOf, slotOf, FindsSlot}
+use Rattle.engine_index.specs.Layout.{linksAt, logAt, nodesOf, slotOf}
 use Rattle.engine_index.specs.SlotPromises.{Spares, Sets}
 use Rattle.engine_index.specs.Represents.{cell}
 use Rattle.engine_index.specs.Steps.{stopAt, filed, freed, Frees}
 use Rattle.engine_index.specs.Promises.{Puts, Marks, Unmarks, Drops, Releases}
+use Rattle.engine_index.proofs.Places.FoundSlot.{FindsSlot}
 use Rattle.engine_index.proofs.Slots.SlotBytes.{held-event}
 use Rattle.engine_index.proofs.Changes.Put.{putBytes, first-free, put-stands}
 use Rattle.engine_index.proofs.Changes.Mark.{markBytes, node-of, mark-stands}
@@ -54,8 +55,11 @@ looked-up xs x n c eo er = rw (← eo) er
 pub looked-back : (xs : List ℕ) (x : ℕ) (n c : ℕ) {o r : ℕ} → o ≡ linksAt n c → r ≡ prevOf xs o x → r ≡ prevOf xs (linksAt n c) x
 looked-back xs x n c eo er = rw (← eo) er
 
-pub looked-log : (xs : List ℕ) (x : ℕ) (n c : ℕ) {o r : ℕ} → o ≡ logAt n c → r ≡ nextOf xs o x → r ≡ nextOf xs (logAt n c) x
-looked-log xs x n c eo er = rw (← eo) er
+pub prev-of : (xs : List ℕ) (o : ℕ) {u w r : ℕ} → r ≡ prevOf xs o u → u ≡ w → r ≡ prevOf xs o w
+prev-of xs o e q = e ∙ ap (λ (i : ℕ). prevOf xs o i) q
+
+pub link-of : (xs : List ℕ) (o k x : ℕ) {a w : ℕ} {ys : List ℕ} → ys ≡ linkAfter xs o k a x → a ≡ w → ys ≡ linkAfter xs o k w x
+link-of xs o k x e q = e ∙ ap (λ (i : ℕ). linkAfter xs o k i x) q
 
 pub filed-made : (xs : List ℕ) (n o k s : ℕ) (e : Event) (x : ℕ) {p a : ℕ} {ys : List ℕ} → p ≡ prevOf xs o s
     → a ≡ steps (prevOf xs o) (stopAt xs n s e) k p → ys ≡ linkAfter xs o k a x → ys ≡ filed xs n o k s e x

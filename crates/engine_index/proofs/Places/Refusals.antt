@@ -1,11 +1,9 @@
 -- Where the code does nothing, the bytes stand for no such cell: the node is no slot's, or its event is at no station.
-use mathlib.Core.Path.{_≡_, refl, sym, ap, _∙_}
-use mathlib.Core.Bool.{Bool, true, false, true≢false, _&&_}
+use mathlib.Core.Path.{_≡_, ap, _∙_}
+use mathlib.Core.Bool.{Bool, false}
 use mathlib.Core.List.{List, _∷_, _++_}
 use Prim.Native.Nat.{ℕ, _*_, _≤_, _<_}
 use native.Mathlib.Omega.{arith}
-use borrow.Author.Tests.{le-leb, lt-leb, leb-true}
-use lib.Dec.{leb}
 use lib.ListN.{length}
 use Rattle.line.specs.declared.Event.{Event}
 use Rattle.line.specs.declared.State.{State}
@@ -14,38 +12,17 @@ use Rattle.rings.specs.Table.{nextOf}
 use Rattle.rings.proofs.Frames.{frame-same}
 use Rattle.engine_rows.specs.Layout.{slotRow}
 use Rattle.entry.specs.Entry.{eventAt}
-use Rattle.engine_index.specs.Layout.{linksAt, slotOf, indexBytes, inRange, IsSlot, FindsSlot}
+use Rattle.engine_index.specs.Layout.{linksAt, slotOf, indexBytes, inRange, IsSlot}
 use Rattle.engine_index.specs.SlotPromises.{Spares, Sets}
 use Rattle.engine_index.specs.Represents.{Cell, cell, Stands}
 use Rattle.engine_index.specs.Promises.{Puts, Marks, Unmarks, Drops, Releases}
+use Rattle.engine_index.proofs.Places.Range.{range-gone}
+use Rattle.engine_index.proofs.Places.FoundSlot.{FindsSlot}
 use Rattle.engine_index.proofs.Slots.SlotBytes.{held-event}
 use Rattle.engine_index.proofs.Changes.Put.{first-free}
 use Rattle.engine_index.proofs.Changes.Mark.{node-of}
 use Rattle.engine_index.proofs.Changes.Confined.{Inside}
 use Rattle.engine_index.proofs.Slots.SlotsSpared.{spares-same}
-
--- ---- the range
-
-module _ (n c : ℕ) where
-  in-range : n ≤ 256 → c ≤ 4096 → inRange n c ≡ true
-  in-range h k = rw (le-leb n 256 h, le-leb c 4096 k)
-
-  pub range-over : 256 < n → false ≡ inRange n c
-  range-over h = rw (lt-leb n 256 h)
-
-  pub range-rest : n ≤ 256 → leb c 4096 ≡ inRange n c
-  range-rest h = rw (le-leb n 256 h)
-
-  pub range-true : {r : Bool} → r ≡ inRange n c → r ≡ true → (n ≤ 256) × (c ≤ 4096)
-  range-true e h = go (leb n 256) (leb c 4096) refl refl (sym e ∙ h)
-    where
-      go : (a b : Bool) → leb n 256 ≡ a → leb c 4096 ≡ b → (a && b) ≡ true → (n ≤ 256) × (c ≤ 4096)
-      go true true p q z = (leb-true n 256 p, leb-true c 4096 q)
-      go true false p q z = absurd (true≢false (sym z))
-      go false b p q z = absurd (true≢false (sym z))
-
-  pub range-gone : {r : Bool} → r ≡ inRange n c → r ≡ false → n ≤ 256 → c ≤ 4096 → ⊥
-  range-gone e z h k = true≢false (sym (in-range h k) ∙ sym e ∙ z)
 
 -- ---- no event's node
 
@@ -107,23 +84,3 @@ module _ (n c : ℕ) (xs : List ℕ) (x : ℕ) where
 
     pub release-none : Inside n c xs xs × (Releases n c xs x xs × Spares n c x xs xs)
     release-none = (unmoved, ((λ A B e b free S. absurd (gone (λ _. R) A (ran e b) B free S)), spares-same n c x xs))
-
--- ---- no free node
-
-module _ (n c : ℕ) (xs : List ℕ) (e : Event) (r : ℕ) where
-  -- nothing is done
-  left : Puts n c xs e r xs → Inside n c xs xs × (Puts n c xs e r xs × Spares n c r xs xs)
-  left P = (unmoved n c xs r, (P, spares-same n c r xs))
-
-  pub put-range : {v : Bool} → v ≡ inRange n c → v ≡ false → Inside n c xs xs × (Puts n c xs e r xs × Spares n c r xs xs)
-  put-range q z = left (λ A B x fs S _ _ _ _. absurd (range-gone n c q z (S .stations) (S .capacity)))
-
-  pub put-none : {o x i : ℕ} → o ≡ linksAt n c → x ≡ nextOf xs o (2 * n) → FindsSlot n c (length xs) x i → c ≤ i
-      → Inside n c xs xs × (Puts n c xs e r xs × Spares n c r xs xs)
-  put-none {o} {x} eo q F l =
-      left
-      (λ A B y fs S _ _ _ _.
-      let z : x ≡ y = q ∙ rw (← eo) at (first-free S .0) in
-      let s : IsSlot n c (length xs) x =
-      rw z (record { stations = S .stations; capacity = S .capacity; room = S .room; above = first-free S .1; below = first-free S .2 }) in
-      absurd (refused-slot n c xs x F l s))

@@ -1,5 +1,5 @@
 -- Are the numbers in range? By the two tests.
-use Rattle.engine_index.proofs.Places.Refusals.{range-over, range-rest}
+use Rattle.engine_index.proofs.Places.Range.{range-over, range-rest}
 use Rattle.engine_index.proofs.in_range.Statement.{statement}
 use Rattle.engine_index.proofs.in_range.Tie as tie
 

@@ -5,7 +5,7 @@ use Rattle.engine_index.proofs.log.Statement.{statement}
 use Rattle.engine_index.proofs.log.Tie as tie
 
 returns : tie.Need-returns
-returns c = λ h k i. c .before .links .ensures i + 4 * c .nodes .ensures h k i
+returns c = λ i. c .before .links .ensures i + 4 * c .nodes .ensures i
 
 pub log-spec : {M : Type 1} → statement M
 log-spec =

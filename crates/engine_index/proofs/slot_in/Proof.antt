@@ -2,7 +2,7 @@
 use Prim.Native.Nat.{_≤_}
 use borrow.Author.Needs.{needs}
 use Rattle.engine_index.proofs.Places.FoundSlot.{found, sentinel, short, out-of-range}
-use Rattle.engine_index.proofs.Places.Refusals.{range-true}
+use Rattle.engine_index.proofs.Places.Range.{range-true, nodes-in, log-in}
 use Rattle.engine_index.proofs.slot_in.Statement.{statement}
 use Rattle.engine_index.proofs.slot_in.Tie as tie
 
@@ -13,15 +13,20 @@ range c = range-true _ _ (c .before .in-range .ensures) (c .if1 .taken)
 returns : tie.Need-returns
 returns c =
     let r = range (c .before .before .before .before) in
-    found _ _ _ _ (r .0) (r .1) (c .before .before .before .log .ensures (r .0) (r .1)) (c .before .before .nodes .ensures (r .0) (r .1)) (c .before .if2 .taken) (c .if3 .taken)
+    found _ _ _ _ (r .0) (r .1) (log-in _ _ (r .0) (r .1) (c .before .before .before .log .ensures))
+    (nodes-in _ _ (r .0) (r .1) (c .before .before .nodes .ensures)) (c .before .if2 .taken) (c .if3 .taken)
 
 returns-2 : tie.Need-returns-2
-returns-2 c = sentinel _ _ _ _ (c .if3 .left)
+returns-2 c =
+    let r = range (c .before .before .before .before) in
+    sentinel _ _ _ _ (r .0) (r .1) (log-in _ _ (r .0) (r .1) (c .before .before .before .log .ensures))
+    (nodes-in _ _ (r .0) (r .1) (c .before .before .nodes .ensures)) (c .before .if2 .taken) (c .if3 .left)
 
 returns-3 : tie.Need-returns-3
 returns-3 c =
     let r = range (c .before .before .before) in
-    short _ _ _ _ (c .before .before .log .ensures (r .0) (r .1)) (c .before .nodes .ensures (r .0) (r .1)) (c .if2 .left)
+    short _ _ _ _ (r .0) (r .1) (log-in _ _ (r .0) (r .1) (c .before .before .log .ensures)) (nodes-in _ _ (r .0) (r .1) (c .before .nodes .ensures))
+    (c .if2 .left)
 
 returns-4 : tie.Need-returns-4
 returns-4 c = out-of-range _ _ _ _ (c .before .in-range .ensures) (c .if1 .left)

@@ -1,4 +1,4 @@
--- The node after a station's sentinel tells the time at which the calendar has to have the station.
+-- A station's first unrun node tells the time at which the calendar has to have the station.
 use mathlib.Core.Path.{_≡_, refl, sym, ap, _∙_, subst}
 use mathlib.Core.Logic.{_≢_, inr}
 use mathlib.Core.Option.{Option, none, some}
@@ -14,7 +14,7 @@ use Rattle.rules.specs.Held.{Held, unrun, event, absent, at, timeOf, registered
 use Rattle.line.proofs.Order.{Which, this, other, which}
 use Rattle.rules.proofs.Undo.RunFirst.{first-in as held-in}
 use Rattle.rules.proofs.Replay.Registered.{registered-at, registered-first}
-use Rattle.rings.specs.Table.{nextOf, Frame}
+use Rattle.rings.specs.Table.{Frame}
 use Rattle.engine_rows.specs.Layout.{slotRow}
 use Rattle.entry.proofs.EntryLaws.{event-time}
 use Rattle.calendar.specs.declared.Answer.{Answer}
@@ -23,11 +23,12 @@ use Rattle.calendar.specs.Bytes.{Sound, stateOf}
 use Rattle.calendar.specs.Promises.{Obeys}
 use Rattle.engine_events.specs.Shows.{asTime}
 use Rattle.engine_events.proofs.CalendarShown.{at-time, absent-time}
-use Rattle.engine_index.specs.Layout.{slotOf, linksAt}
+use Rattle.engine_index.specs.Layout.{slotOf}
 use Rattle.engine_index.specs.Represents.{Cell, cell, ringOf, Stands, NoneIn}
 use Rattle.engine_index.proofs.Slots.SlotBytes.{held-event}
 use Rattle.engine_index.proofs.Changes.Mark.{node-of}
-use Rattle.engine_index.proofs.Rings.RingEnds.{next-none, first-in}
+use Rattle.engine_ends.specs.Ends.{firstUnrun}
+use Rattle.engine_ends.proofs.Ends.{first-unrun-is, first-unrun-none}
 use Rattle.engine_index.proofs.Rings.RingSearches as search
 use Rattle.engine_index.proofs.Rings.RingSearches.{First, first, waits}
 use Rattle.engine_index.proofs.Changes.ToRules as rules
@@ -43,18 +44,17 @@ pub held-same : (cells : List Cell) → rules.heldOf cells ≡ heldOf cells
 held-same [] = refl
 held-same (y ∷ ys) = ap (λ (l : List Held). y .held ∷ l) (held-same ys)
 
--- ---- the node after the sentinel
+-- ---- the first unrun node
 
 module _ {n c : ℕ} {xs : List ℕ} {free : List ℕ} (s : ℕ) (l : s < n) where
   -- the first cell that waits at s
   at-first : (A : List Cell) (y : Cell) (B : List Cell) → Stands n c xs (A ++ y ∷ B) free → NoneIn n s A → ringOf n (y .held) ≡ s
-      → (nextOf xs (linksAt n c) s ≡ y .node) × (s < y .node)
+      → (firstUnrun xs n c s ≡ y .node) × (0 < y .node)
       × (registered (heldOf (A ++ y ∷ B)) s ≡ at (loadAt 8 (slotRow n (slotOf n (y .node))) xs))
   at-first A y B S z e =
       let w = node-of A y B S in
       let h = waits n s l (y .held) e in
-      let next : nextOf xs (linksAt n c) s ≡ y .node =
-      subst (λ (u : ℕ). NoneIn n u A → nextOf xs (linksAt n c) u ≡ y .node) e (first-in A y B S) z in
+      let next : firstUnrun xs n c s ≡ y .node = first-unrun-is A y B S s l e z in
       let none : NoneIn n (event (y .held) .target) A = subst (λ (u : ℕ). NoneIn n u A) (sym (h .1)) z in
       let same : heldOf (A ++ y ∷ B) ≡ rules.heldOf (A ++ cell (y .node) (unrun (event (y .held))) ∷ B) =
       ap (λ (g : Held). heldOf (A ++ cell (y .node) g ∷ B)) (h .0) ∙ sym (held-same (A ++ cell (y .node) (unrun (event (y .held))) ∷ B)) in
@@ -66,23 +66,23 @@ module _ {n c : ℕ} {xs : List ℕ} {free : List ℕ} (s : ℕ) (l : s < n) whe
       event-time (slotRow n (slotOf n (y .node))) xs ∙ ap (λ (x : Event). x .time) (held-event n xs (y .node) (y .held) (w .0)) in
       (next, omega (arith, w .1), registered-at s (heldOf (A ++ y ∷ B)) (event (y .held)) least ∙ ap at (sym time))
 
-  -- it is the sentinel: no event waits there
-  pub none-waits : (cells : List Cell) → Stands n c xs cells free → nextOf xs (linksAt n c) s ≡ s → registered (heldOf cells) s ≡ absent
+  -- there is none: no event waits there
+  none-waits : (cells : List Cell) → Stands n c xs cells free → firstUnrun xs n c s ≡ 0 → registered (heldOf cells) s ≡ absent
   unfolding registered timeOf
   none-waits cells S e = go (first n s cells) S
     where
       go : {cells : List Cell} → First n s cells → Stands n c xs cells free → registered (heldOf cells) s ≡ absent
       go (search.none {cells = cells} z) S = rw (← held-same cells, least-none n s cells z)
-      go (search.some A y B z q) S = let f = at-first A y B S z q in absurd (omega (arith, f .0, f .1))
+      go (search.some A y B z q) S = let f = at-first A y B S z q in absurd (omega (arith, e, f .0, f .1))
 
-  -- it is another node: that of the first event that waits there
-  pub first-waits : (cells : List Cell) → Stands n c xs cells free → nextOf xs (linksAt n c) s ≢ s
-      → registered (heldOf cells) s ≡ at (loadAt 8 (slotRow n (slotOf n (nextOf xs (linksAt n c) s))) xs)
+  -- it is that of the first event that waits there
+  first-waits : (cells : List Cell) → Stands n c xs cells free → firstUnrun xs n c s ≢ 0
+      → registered (heldOf cells) s ≡ at (loadAt 8 (slotRow n (slotOf n (firstUnrun xs n c s))) xs)
   first-waits cells S d = go (first n s cells) S
     where
       go : {cells : List Cell} → First n s cells → Stands n c xs cells free
-          → registered (heldOf cells) s ≡ at (loadAt 8 (slotRow n (slotOf n (nextOf xs (linksAt n c) s))) xs)
-      go (search.none z) S = absurd (d (next-none S s (omega arith) z))
+          → registered (heldOf cells) s ≡ at (loadAt 8 (slotRow n (slotOf n (firstUnrun xs n c s))) xs)
+      go (search.none z) S = absurd (d (first-unrun-none S s l z))
       go (search.some A y B z q) S = let f = at-first A y B S z q in rw (f .0) (f .2)
 
 -- ---- the calendar is told
@@ -113,8 +113,8 @@ After n c s start end xs zs =
     Frame (calendarAt n c) (calendarBytes n) xs (putMid start (end - start) xs zs) × Tells n c s xs (putMid start (end - start) xs zs)
 
 module _ (n c s : ℕ) {start end x : ℕ} (xs zs : List ℕ) (b : s < n) (ls : start ≡ calendarAt n c) (le : end ≡ start + 32768 + 64 * n) (long : end ≤ length xs)
-    (size : length zs ≡ length (take (end - start) (drop start xs))) (next : x ≡ nextOf xs (linksAt n c) s) where
-  pub tell-none : {r : Answer} → x ≡ s → Obeys (λ q. unregisterChecks q s) (λ q. unregistered q s) (take (end - start) (drop start xs)) r zs → After n c s start end xs zs
+    (size : length zs ≡ length (take (end - start) (drop start xs))) (next : x ≡ firstUnrun xs n c s) where
+  pub tell-none : {r : Answer} → x ≡ 0 → Obeys (λ q. unregisterChecks q s) (λ q. unregistered q s) (take (end - start) (drop start xs)) r zs → After n c s start end xs zs
   tell-none {r} e O = (
     put .1 .1,
     λ p now q cells S U.
@@ -131,13 +131,13 @@ module _ (n c s : ℕ) {start end x : ℕ} (xs zs : List ℕ) (b : s < n) (ls : 
       put : (take (end - start) (drop start xs) ≡ part n c xs) × Put n c xs zs (putMid start (end - start) xs zs)
       put = part-put n c xs zs ls le long size
 
-  pub tell-time : {r : Answer} {i t : ℕ} → x ≢ s → i ≡ slotOf n x → t ≡ loadAt 8 (slotRow n i) xs
+  pub tell-time : {r : Answer} {i t : ℕ} → x ≢ 0 → i ≡ slotOf n x → t ≡ loadAt 8 (slotRow n i) xs
       → Obeys (λ q. registerChecks q s t) (λ q. entered q s t) (take (end - start) (drop start xs)) r zs → After n c s start end xs zs
   tell-time {r} {i} {t} d ei et O = (
     put .1 .1,
     λ p now q cells S U.
         let O : Obeys (λ q. registerChecks q s t) (λ q. entered q s t) (part n c xs) r zs = rw (put .0) at O in
-        let time : t ≡ loadAt 8 (slotRow n (slotOf n (nextOf xs (linksAt n c) s))) xs = et ∙ rw (ei, next) in
+        let time : t ≡ loadAt 8 (slotRow n (slotOf n (firstUnrun xs n c s))) xs = et ∙ rw (ei, next) in
         let is : registered (q .held) s ≡ at t = rw (S .held, ← time) at (first-waits s b cells (S .stands) (λ z. d (next ∙ z))) in
         let f = registered-first s (q .held) t is in
         let k = S .times (unrun (f .0)) (held-in (f .1)) in

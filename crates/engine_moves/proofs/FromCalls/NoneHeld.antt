@@ -10,7 +10,8 @@ use Rattle.line.specs.Station.{Plan}
 use Rattle.rules.specs.Held.{Held, event, Queue}
 use Rattle.engine_rows.specs.Layout.{slotRow}
 use Rattle.entry.specs.Entry.{eventAt}
-use Rattle.engine_index.specs.Layout.{slotOf, IsSlot, FindsSlot}
+use Rattle.engine_index.specs.Layout.{slotOf, IsSlot}
+use Rattle.engine_index.proofs.Places.FoundSlot.{FindsSlot}
 use Rattle.engine_index.specs.Represents.{Cell, cell}
 use Rattle.engine_index.proofs.Slots.SlotBytes.{held-event}
 use Rattle.engine_events.specs.Represents.{fitsIn, Has, Stores}

@@ -2,6 +2,7 @@
 use Rattle.engine_moves.proofs.FromCalls.CallsOfChanges.{tell-room}
 use Rattle.engine_moves.proofs.FromCalls.NoneHeld.{nowhere-fits, nowhere-slot, nowhere-target}
 use Rattle.engine_moves.proofs.FromCalls.Leave.{discard-made, discard-none}
+use Rattle.engine_index.proofs.Places.FoundSlot.{finds}
 use borrow.Author.Needs.{needs}
 use Rattle.engine_moves.proofs.discard.Statement.{statement}
 use Rattle.engine_moves.proofs.discard.Tie as tie
@@ -28,7 +29,7 @@ returns c =
     let d = c .before .before .before .before .before .before in
     let e = at-station d .before in
     let f = found e in
-    discard-made _ _ _ _ (f .before .slot-in .ensures .sound (f .if2 .taken)) (e .event .ensures) (d .drop .ensures) (c .before .before .tell .ensures)
+    discard-made _ _ _ _ (finds (f .before .slot-in .ensures) .sound (f .if2 .taken)) (e .event .ensures) (d .drop .ensures) (c .before .before .tell .ensures)
 
 -- ---- nothing is done
 
@@ -36,10 +37,10 @@ returns-2 : tie.Need-returns-2
 returns-2 c =
     let f = found (c .before) in
     discard-none _ _ _ _
-    (nowhere-target _ _ _ _ (f .before .slot-in .ensures .sound (f .if2 .taken) .1) (c .before .event .ensures) (c .if3 .left))
+    (nowhere-target _ _ _ _ (finds (f .before .slot-in .ensures) .sound (f .if2 .taken) .1) (c .before .event .ensures) (c .if3 .left))
 
 returns-3 : tie.Need-returns-3
-returns-3 c = discard-none _ _ _ _ (nowhere-slot _ _ _ _ (c .before .slot-in .ensures) (c .if2 .left))
+returns-3 c = discard-none _ _ _ _ (nowhere-slot _ _ _ _ (finds (c .before .slot-in .ensures)) (c .if2 .left))
 
 returns-4 : tie.Need-returns-4
 returns-4 c = discard-none _ _ _ _ (nowhere-fits _ _ _ _ (c .before .fits2 .ensures) (c .if1 .left))

@@ -14,16 +14,19 @@ tell-requires c κs =
     tell-room _ _ _ (t .before .before .fits2 .ensures) (t .before .if1 .taken) (s .if3 .taken) (t .if2 .taken) (p .put .ensures .0 .size)
 
 returns : tie.Need-returns
-returns c = hold-made _ _ _ _ (c .before .before .before .before .before .before .put .ensures) (c .before .before .tell .ensures)
+returns c =
+    let p = c .before .before .before .before .before .before in
+    let t = p .before .before .before in
+    hold-made _ _ _ _ _ (t .before .before .fits2 .ensures) (t .before .if1 .taken) (t .if2 .taken) (p .put .ensures) (c .before .before .tell .ensures)
 
 returns-2 : tie.Need-returns-2
-returns-2 c = hold-slotless _ _ _ _ _ (c .if3 .left)
+returns-2 c = hold-slotless _ _ _ _ (c .if3 .left)
 
 returns-3 : tie.Need-returns-3
-returns-3 c = hold-outside _ _ _ _ _ (c .if2 .left)
+returns-3 c = hold-outside _ _ _ _ (c .before .before .fits2 .ensures) (c .before .if1 .taken) (c .if2 .left)
 
 returns-4 : tie.Need-returns-4
-returns-4 c = hold-unfit _ _ _ _ _ (c .before .fits2 .ensures) (c .if1 .left)
+returns-4 c = hold-unfit _ _ _ _ (c .before .fits2 .ensures) (c .if1 .left)
 
 pub hold-spec : {M : Type 1} → statement M
 hold-spec =

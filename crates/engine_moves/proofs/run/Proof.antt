@@ -3,6 +3,7 @@ use native.Mathlib.Omega.{arith}
 use Rattle.engine_moves.proofs.FromCalls.CallsOfChanges.{tell-room}
 use Rattle.engine_moves.proofs.FromCalls.NoneHeld.{nowhere-fits, nowhere-slot, nowhere-target}
 use Rattle.engine_moves.proofs.FromCalls.Run.{run-size, run-made, run-none}
+use Rattle.engine_index.proofs.Places.FoundSlot.{finds}
 use borrow.Author.Needs.{needs}
 use Rattle.engine_moves.proofs.run.Statement.{statement}
 use Rattle.engine_moves.proofs.run.Tie as tie
@@ -46,7 +47,7 @@ returns c =
     let g = fitting (f .before) in
     let r = start g .fits in
     run-made _ _ _ _ _ _ _ _ (omega (arith, r .first))
-    (omega (arith, r .second)) (f .before .slot-in .ensures .sound (f .if2 .taken) .1) (t .before .event .ensures) (t .if3 .taken)
+    (omega (arith, r .second)) (finds (f .before .slot-in .ensures) .sound (f .if2 .taken) .1) (t .before .event .ensures) (t .if3 .taken)
     (i .before .before .state .ensures) (λ j. omega (arith, g .before .before .before .slice-known .given j)) (i .set-number .ensures .0 (omega arith))
     (m .before .before .before .before .set-number2 .ensures .0 (omega arith)) (m .mark .ensures)
     (c .before .before .before .before .before .before .set-state .ensures) (c .before .before .tell .ensures)
@@ -58,12 +59,12 @@ returns-2 c =
     let f = found (c .before) in
     let a = start (fitting (f .before)) .args in
     run-none _ _ _ _ (a .first) (a .second) _
-    (nowhere-target _ _ _ _ (f .before .slot-in .ensures .sound (f .if2 .taken) .1) (c .before .event .ensures) (c .if3 .left))
+    (nowhere-target _ _ _ _ (finds (f .before .slot-in .ensures) .sound (f .if2 .taken) .1) (c .before .event .ensures) (c .if3 .left))
 
 returns-3 : tie.Need-returns-3
 returns-3 c =
     let a = start (fitting (c .before)) .args in
-    run-none _ _ _ _ (a .first) (a .second) _ (nowhere-slot _ _ _ _ (c .before .slot-in .ensures) (c .if2 .left))
+    run-none _ _ _ _ (a .first) (a .second) _ (nowhere-slot _ _ _ _ (finds (c .before .slot-in .ensures)) (c .if2 .left))
 
 returns-4 : tie.Need-returns-4
 returns-4 c =

@@ -1,4 +1,4 @@
--- The calendar is told what stands at the node after the sentinel: nothing (`tell-none`), or an event's time (`tell-time`).
+-- The calendar is told what stands at the first unrun node: nothing (`tell-none`), or an event's time (`tell-time`).
 use mathlib.Core.Path.{refl}
 use native.Mathlib.Omega.{arith}
 use Rattle.engine_moves.proofs.Bytes.StationTime.{tell-none, tell-time}
@@ -11,7 +11,7 @@ use Rattle.engine_moves.proofs.tell.Tie as tie
 abbrev start : tie.After-calendar-start → tie.Start
 start c = c .before .before
 
-abbrev placed : tie.After-next → tie.After-calendar-start
+abbrev placed : tie.After-first-unrun → tie.After-calendar-start
 placed c = c .before .before
 
 returns : tie.Need-returns
@@ -20,7 +20,7 @@ returns c =
     let d = placed (t .before) in
     let s = start d in
     tell-none _ _ _ _ _ (s .pre .3) (d .calendar-start .ensures) refl (omega (arith, s .pre, d .calendar-start .ensures))
-    (c .before .before .unregister .kept .0) (t .before .next .ensures) (t .if1 .taken) (c .before .before .unregister .ensures)
+    (c .before .before .unregister .kept .0) (t .before .first-unrun .ensures) (t .if1 .taken) (c .before .before .unregister .ensures)
 
 returns-2 : tie.Need-returns-2
 returns-2 c =
@@ -29,7 +29,7 @@ returns-2 c =
     let d = placed (e .before) in
     let s = start d in
     tell-time _ _ _ _ _ (s .pre .3) (d .calendar-start .ensures) refl (omega (arith, s .pre, d .calendar-start .ensures))
-    (c .before .before .register .kept .0) (e .before .next .ensures) (e .if1 .left) (t .before .slot .ensures) (t .time .ensures)
+    (c .before .before .register .kept .0) (e .before .first-unrun .ensures) (e .if1 .left) (t .before .slot .ensures) (t .time .ensures)
     (c .before .before .register .ensures)
 
 pub tell-spec : {M : Type 1} → statement M

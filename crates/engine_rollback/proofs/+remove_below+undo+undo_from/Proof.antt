@@ -21,7 +21,7 @@ use Rattle.engine_rollback.proofs.+remove_below+undo+undo_from.Lts-undo
 use Rattle.engine_rollback.proofs.undo_from.Reads as undo-from
 use Rattle.engine_rollback.proofs.undo_from.Kinds as undo-from-kinds
 use Rattle.engine_rollback.proofs.+remove_below+undo+undo_from.Lts-undo_from as undo-from-lts
-use Rattle.engine_index.proofs.prev.Reads as prev-reads
+use Rattle.engine_ends.proofs.last_run.Reads as last-run-reads
 use Rattle.engine_moves.proofs.discard.Reads as discard-reads
 use Rattle.engine_events.proofs.event.Reads as event-reads
 use Rattle.engine_events.proofs.first_send.Reads as first-send-reads
@@ -109,7 +109,8 @@ module _ (t : ℕ) where
   undo-remove-below-requires : undo-lts.Need-remove-below-requires undo-calls (undo-at t) undo.Post
   undo-remove-below-requires c κs =
       let p = c .before in
-      (omega (arith, p .before .before .before .unrun .ensures .1 .1 .0 (p .if2 .taken)), (omega arith, omega arith))
+      let s = p .before .before .before .before .before .before .before .before .before .before .before .before .before in
+      (omega (arith, p .before .before .before .unrun .ensures .1 .1 .0 (p .if2 .taken), s .pre), (omega (arith, s .pre), omega arith))
 
   undo-remove-below-requires-2 : undo-lts.Need-remove-below-requires-2 undo-calls (undo-at t) undo.Post
   undo-remove-below-requires-2 c κs =
@@ -148,14 +149,14 @@ module _ (t : ℕ) where
           omega (arith, r .1 .1 .0 (p .if2 .taken), k .1 .0, m .1 .0),
           undoes-both _ _ _ _ (w .before .before .before .before .before .before .before .event .ensures)
               (w .before .before .before .before .first-send .ensures) (w .before .before .second-send .ensures)
-              (r .1 .1 .1) (k .1 .1 .0) (k .1 .1 .1) (m .1 .1 .0) (m .1 .1 .1),
+              (r .1 .1 .1 .0) (k .1 .1 .0) (k .1 .1 .1) (m .1 .1 .0) (m .1 .1 .1),
         ),
       )
 
   undo-returns-3 : undo-lts.Need-returns-3 undo-calls (undo-at t) undo.Post
   undo-returns-3 c =
       let r = c .before .before .before .unrun .ensures in
-      (r .0, (runs-same _ _ (r .1 .0 (c .if2 .left)), undoes-other _ _ _ _ (c .if2 .left) (r .1 .1 .1)))
+      (r .0, (runs-same _ _ (r .1 .0 (c .if2 .left)), undoes-other _ _ _ _ (c .if2 .left) (r .1 .1 .1 .0)))
 
 -- ---- undo_from
 
@@ -168,12 +169,12 @@ undo-from-μ-loop b₀ n c s e count₀ b count = runsBelow n b c
 
 module _ (t : ℕ) where
   abbrev undo-from-calls : undo-from-lts.Claims
-  undo-from-calls = (prev-reads.Asked, prev-reads.Learnt, slot-reads.Asked, slot-reads.Learnt, before-reads.Asked, before-reads.Learnt, undo-below t, undo.Post)
+  undo-from-calls = (last-run-reads.Asked, last-run-reads.Learnt, slot-reads.Asked, slot-reads.Learnt, before-reads.Asked, before-reads.Learnt, undo-below t, undo.Post)
 
   undo-from-returns : undo-from-lts.Need-returns undo-from-calls (undo-from-at t) undo-from.Post undo-from-Inv-loop undo-from-μ-loop
   undo-from-returns c =
       let i = c .before .before .before .loop .inv in
-      (i .0, (i .1, undoes-from (i .2) (ended-empty (omega arith) _ (c .before .prev .ensures) (omega arith))))
+      (i .0, (i .1, undoes-from (i .2) (ended-empty (omega arith) _ (c .before .last-run .ensures) (omega arith))))
 
   undo-from-returns-2 : undo-from-lts.Need-returns-2 undo-from-calls (undo-from-at t) undo-from.Post undo-from-Inv-loop undo-from-μ-loop
   undo-from-returns-2 c =
@@ -181,7 +182,7 @@ module _ (t : ℕ) where
       let x = b .before .before .before .before in
       let i = x .before .before .loop .inv in
       let v = test-at _ _ _ _ (b .before .slot .ensures) (b .before2 .ensures) (c .if2 .taken) in
-      (i .0, (i .1, undoes-from (i .2) (ended-before (omega arith) _ (x .prev .ensures) (λ z. omega (arith, z)) v)))
+      (i .0, (i .1, undoes-from (i .2) (ended-before (omega arith) _ (x .last-run .ensures) (λ z. omega (arith, z)) v)))
 
   undo-from-returns-3 : undo-from-lts.Need-returns-3 undo-from-calls (undo-from-at t) undo-from.Post undo-from-Inv-loop undo-from-μ-loop
   undo-from-returns-3 c =
@@ -192,7 +193,7 @@ module _ (t : ℕ) where
       let u = c .before .before .before .undo .ensures in
       let v = test-at _ _ _ _ (b .before .slot .ensures) (b .before2 .ensures) (f .if2 .left) in (
         after-header-on (i .0) (u .0),
-        (omega (arith, i .1, u .1 .0), no-turn (omega arith) _ (x .prev .ensures) (λ z. omega (arith, z)) v (i .2) (u .1 .1) (omega arith)),
+        (omega (arith, i .1, u .1 .0), no-turn (omega arith) _ (x .last-run .ensures) (λ z. omega (arith, z)) v (i .2) (u .1 .1) (omega arith)),
       )
 
   undo-from-add-count : undo-from-lts.Need-add-count undo-from-calls (undo-from-at t) undo-from.Post undo-from-Inv-loop undo-from-μ-loop
@@ -209,7 +210,7 @@ module _ (t : ℕ) where
       let i = x .before .before .loop .inv in
       let u = c .before .before .before .undo .ensures in
       let v = test-at _ _ _ _ (b .before .slot .ensures) (b .before2 .ensures) (f .if2 .left) in
-      (after-header-on (i .0) (u .0), omega (arith, i .1, u .1 .0), goes-on (omega arith) _ (x .prev .ensures) (λ z. omega (arith, z)) v (i .2) (u .1 .1))
+      (after-header-on (i .0) (u .0), omega (arith, i .1, u .1 .0), goes-on (omega arith) _ (x .last-run .ensures) (λ z. omega (arith, z)) v (i .2) (u .1 .1))
 
 pub +remove-below+undo+undo-from-spec : {M : Type 1} → statement M
 +remove-below+undo+undo-from-spec =
@@ -241,9 +242,7 @@ pub +remove-below+undo+undo-from-spec : {M : Type 1} → statement M
     (undo-returns-3 t))
     (λ t. undo-from-lts.spec (undo-from-calls t) (undo-from-at t) undo-from.Post undo-from-Inv-loop undo-from-μ-loop
     (λ c. (after-header-same _, omega arith, goes-at-first _ _ _ _ _))
-    (λ c. omega arith)
     (λ c κs. search needs)
-    (λ c. omega arith)
     (λ c. search needs)
     (undo-from-returns t)
     (λ c κs. search needs)
