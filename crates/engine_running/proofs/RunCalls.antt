@@ -26,7 +26,8 @@ use Rattle.engine_ends.specs.Ends.{firstUnrun}
 use Rattle.entry.specs.Entry.{eventAt}
 use Rattle.engine_records.specs.Records.{stateAt, storedConfig}
 use Rattle.engine_rows.specs.Layout.{stationRow, slotRow}
-use Rattle.engine_index.specs.Layout.{slotOf, FindsSlot}
+use Rattle.engine_index.specs.Layout.{slotOf}
+use Rattle.engine_index.proofs.Places.FoundSlot.{FindsSlot}
 use Rattle.engine_events.specs.Represents.{fitsIn}
 use Rattle.engine_events.specs.Promises.{AfterHeader, Finds}
 use Rattle.engine_moves.specs.Promises.{RunsEvent}

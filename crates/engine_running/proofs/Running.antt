@@ -47,7 +47,8 @@ use Rattle.entry.specs.Entry.{eventAt}
 use Rattle.engine_records.specs.Records.{stateAt, storedConfig}
 use Rattle.entry.proofs.EntryLaws.{event-fits}
 use Rattle.engine_records.proofs.Fits.{state-fits}
-use Rattle.engine_index.specs.Layout.{freeRing, slotOf, IsSlot, FindsSlot}
+use Rattle.engine_index.specs.Layout.{freeRing, slotOf, IsSlot}
+use Rattle.engine_index.proofs.Places.FoundSlot.{FindsSlot}
 use Rattle.engine_index.specs.Represents.{cell}
 use Rattle.engine_events.specs.Represents.{nonzero, Nodes, none}
 use Rattle.engine_events.specs.Promises.{AfterHeader}

@@ -2,6 +2,8 @@
 use mathlib.Core.Path.{_≡_}
 use Prim.Native.Nat.{_-_, _≤_}
 use native.Mathlib.Omega.{arith}
+use Rattle.engine_index.proofs.Places.Range.{logged-at}
+use Rattle.engine_index.proofs.Places.FoundSlot.{finds}
 use borrow.Author.Needs.{needs}
 use Rattle.engine_promises.proofs.FoundSlots.{no-slot}
 use Rattle.engine_ends.proofs.Ends.{logged-reads}
@@ -27,14 +29,14 @@ time-read : (c : tie.After-time Inv-loop μ-loop)
     → let l = around c in
     let a = l .before .before .before .args in
     c .time .result ≡ timeAt (a .n) (a .b .now) (l .loop .x)
-time-read c = read-time _ _ _ (c .before .before .slot-in .ensures .sound (c .before .if1 .left) .1) (c .time .ensures)
+time-read c = read-time _ _ _ (c .finds (before .before .slot-in .ensures) .sound (c .before .if1 .left) .1) (c .time .ensures)
 
 -- ---- the count ends, at three places
 
 returns : tie.Need-returns Inv-loop μ-loop
 returns c =
     let inv = c .before .before .before .loop .inv in
-    (inv .0, counting-ends _ _ _ _ (inv .1) (λ some early more. no-slot (c .before .slot-in .ensures) (c .if1 .taken) some))
+    (inv .0, counting-ends _ _ _ _ (inv .1) (λ some early more. no-slot (finds (c .before .slot-in .ensures)) (c .if1 .taken) some))
 
 returns-2 : tie.Need-returns-2 Inv-loop μ-loop
 returns-2 c =
@@ -51,10 +53,10 @@ returns-3 c =
 loop-again : tie.Need-loop-again Inv-loop μ-loop
 loop-again c =
     let t = c .before .before in
-    let slot = t .before .before .slot-in .ensures .sound (t .before .if1 .left) .0 in (
+    let slot = finds (t .before .before .slot-in .ensures) .sound (t .before .if1 .left) .0 in (
       omega (arith, t .before .before .before .loop-test .taken),
       counting-on _ _ _ _ (around t .loop .inv .1) (λ z. omega (arith, z, slot .above)) (omega (arith, time-read t, c .before .if2 .left))
-          (c .next-logged .ensures),
+          (logged-at _ _ _ _ (c .next-logged .ensures)),
     )
 
 pub count-before-spec : {M : Type 1} → statement M

@@ -3,6 +3,7 @@
 use mathlib.Core.Path.{_≡_, refl, ap, _∙_}
 use Prim.Native.Nat.{_-_, _≤_}
 use native.Mathlib.Omega.{arith}
+use Rattle.engine_index.proofs.Places.FoundSlot.{finds}
 use borrow.Author.Needs.{needs}
 use lib.ListN.{length}
 use Rattle.entry.proofs.EntryLaws.{length-event}
@@ -33,7 +34,7 @@ returns c =
     let inv = around i .loop .inv in (
       inv .2,
       writing-stops _ _ _ _ _ (inv .3) (i .before .before .before .before .loop-test .taken) (logged-reads _ _ _ _ (i .before .before .first-logged .ensures))
-          (no-slot (i .slot-in .ensures) (c .if1 .taken)),
+          (no-slot (finds (i .slot-in .ensures)) (c .if1 .taken)),
     )
 
 loop-again : tie.Need-loop-again Inv-loop μ-loop
@@ -48,7 +49,7 @@ loop-again c =
       ap length (w .write .ensures) ∙ length-event _ _ _ ∙ inv .1,
       after-header-on (inv .2) (gone .0),
       writing-on _ _ _ _ _ (inv .3) more (logged-reads _ _ _ _ (i .before .before .first-logged .ensures))
-          (slot-event (i .slot-in .ensures) _ (f .if1 .left) (w .before .before .event .ensures)) (w .write .ensures) (gone .1),
+          (slot-event (finds (i .slot-in .ensures)) _ (f .if1 .left) (w .before .before .event .ensures)) (w .write .ensures) (gone .1),
     )
 
 returns-2 : tie.Need-returns-2 Inv-loop μ-loop

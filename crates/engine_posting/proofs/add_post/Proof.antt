@@ -6,7 +6,7 @@ use Rattle.engine_posting.proofs.add_post.Statement.{statement}
 use Rattle.engine_posting.proofs.add_post.Tie as tie
 
 returns : tie.Need-returns
-returns c = added-post (c .before .before .before .before .before .before .before .add .ensures .0) (c .before .before .before .before .before .before .before .add .ensures .1 .1) (c .before .before .set-header .ensures .0 (omega arith))
+returns c = added-post (c .before .before .before .before .before .before .before .add .ensures .0) (c .before .before .before .before .before .before .before .add .ensures .1 .1 .0) (c .before .before .set-header .ensures .0 (omega arith))
 
 pub add-post-spec : {M : Type 1} → statement M
 add-post-spec =

@@ -13,7 +13,7 @@ returns-2 : tie.Need-returns-2
 returns-2 c =
     let add = c .before .before .add in
     let s = c .before .before .before .before .before .s in
-    (add .ensures .0, (add .ensures .1 .0, rw (s .given .1) (add .ensures .1 .1)))
+    (add .ensures .0, (add .ensures .1 .0, rw (s .given .1) (add .ensures .1 .1 .0)))
 
 pub add-send-spec : {M : Type 1} → statement M
 add-send-spec =
