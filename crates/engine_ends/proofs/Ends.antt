@@ -81,11 +81,6 @@ module _ {n c : ℕ} {xs : List ℕ} {cells : List Cell} where
 
 -- ---- the log
 
--- as it is read where the numbers are in range
-pub logged-reads : (n c x : ℕ) (xs : List ℕ) → x ≡ firstLogged xs n c → n ≤ 256 → c ≤ 4096 → x ≡ nextOf xs (logAt n c) 0
-unfolding firstLogged
-logged-reads n c x xs e l k = rw (le-leb n 256 l, le-leb c 4096 k) at e
-
 in-range : {n c : ℕ} {xs : List ℕ} {cells : List Cell} {free : List ℕ} → Stands n c xs cells free → firstLogged xs n c ≡ nextOf xs (logAt n c) 0
 in-range {n} {c} {xs} S = logged-in n c (S .stations) (S .capacity) xs 0
 

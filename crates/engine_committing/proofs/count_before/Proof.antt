@@ -6,7 +6,6 @@ use Rattle.engine_index.proofs.Places.Range.{logged-at}
 use Rattle.engine_index.proofs.Places.FoundSlot.{finds}
 use borrow.Author.Needs.{needs}
 use Rattle.engine_promises.proofs.FoundSlots.{no-slot}
-use Rattle.engine_ends.proofs.Ends.{logged-reads}
 use Rattle.engine_committing.proofs.Counting.{Counting, timeAt, counting-start, counting-on, counting-ends, read-time}
 use Rattle.engine_committing.proofs.count_before.Statement.{statement}
 use Rattle.engine_committing.proofs.count_before.Tie as tie
@@ -18,7 +17,7 @@ abbrev μ-loop : tie.MeasureT-loop
 μ-loop b n c time x₀ count₀ x count = c - count
 
 loop-holds : tie.Need-loop-holds Inv-loop μ-loop
-loop-holds c = (omega arith, counting-start _ _ _ _ (logged-reads _ _ _ _ (c .first-logged .ensures)))
+loop-holds c = (omega arith, counting-start _ _ _ _ (logged-at _ _ _ _ (c .first-logged .ensures)))
 
 -- the place of the loop, seen from the time that is read
 abbrev around : tie.After-time Inv-loop μ-loop → tie.At-loop Inv-loop μ-loop
@@ -29,7 +28,7 @@ time-read : (c : tie.After-time Inv-loop μ-loop)
     → let l = around c in
     let a = l .before .before .before .args in
     c .time .result ≡ timeAt (a .n) (a .b .now) (l .loop .x)
-time-read c = read-time _ _ _ (c .finds (before .before .slot-in .ensures) .sound (c .before .if1 .left) .1) (c .time .ensures)
+time-read c = read-time _ _ _ (finds (c .before .before .slot-in .ensures) .sound (c .before .if1 .left) .1) (c .time .ensures)
 
 -- ---- the count ends, at three places
 

@@ -3,6 +3,7 @@
 use mathlib.Core.Path.{_≡_, refl, ap, _∙_}
 use Prim.Native.Nat.{_-_, _≤_}
 use native.Mathlib.Omega.{arith}
+use Rattle.engine_index.proofs.Places.Range.{logged-at}
 use Rattle.engine_index.proofs.Places.FoundSlot.{finds}
 use borrow.Author.Needs.{needs}
 use lib.ListN.{length}
@@ -10,7 +11,6 @@ use Rattle.entry.proofs.EntryLaws.{length-event}
 use Rattle.engine_events.specs.Promises.{AfterHeader}
 use Rattle.engine_events.proofs.AfterHeader.{after-header-same, after-header-on}
 use Rattle.engine_promises.proofs.FoundSlots.{no-slot, slot-event}
-use Rattle.engine_ends.proofs.Ends.{logged-reads}
 use Rattle.engine_committing.proofs.Writing.{Writing, writing-start, writing-on, writing-stops, writing-ends}
 use Rattle.engine_committing.proofs.write_first.Statement.{statement}
 use Rattle.engine_committing.proofs.write_first.Tie as tie
@@ -33,7 +33,7 @@ returns c =
     let i = c .before in
     let inv = around i .loop .inv in (
       inv .2,
-      writing-stops _ _ _ _ _ (inv .3) (i .before .before .before .before .loop-test .taken) (logged-reads _ _ _ _ (i .before .before .first-logged .ensures))
+      writing-stops _ _ _ _ _ (inv .3) (i .before .before .before .before .loop-test .taken) (logged-at _ _ _ _ (i .before .before .first-logged .ensures))
           (no-slot (finds (i .slot-in .ensures)) (c .if1 .taken)),
     )
 
@@ -48,7 +48,7 @@ loop-again c =
       omega (arith, more),
       ap length (w .write .ensures) ∙ length-event _ _ _ ∙ inv .1,
       after-header-on (inv .2) (gone .0),
-      writing-on _ _ _ _ _ (inv .3) more (logged-reads _ _ _ _ (i .before .before .first-logged .ensures))
+      writing-on _ _ _ _ _ (inv .3) more (logged-at _ _ _ _ (i .before .before .first-logged .ensures))
           (slot-event (finds (i .slot-in .ensures)) _ (f .if1 .left) (w .before .before .event .ensures)) (w .write .ensures) (gone .1),
     )
 
