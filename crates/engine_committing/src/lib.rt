@@ -89,7 +89,7 @@ fn judge_commit(b: &[u8], time: u64, room: usize) -> CommitJudged
     if HORIZON + 1 < time {
         return CommitJudged::Refused(Refusal::Late);
     }
-    if time < engine_rows::header(b, 2) {
+    if time < engine_rows::header(b, engine_rows::COMMIT_TIME) {
         return CommitJudged::Refused(Refusal::Early);
     }
     if unrun_before(b, n, c, time) {
@@ -110,7 +110,7 @@ pub fn commit(b: &mut [u8], time: u64, out: &mut [u8]) -> CommitAnswer
         CommitJudged::Refused(e) => CommitAnswer::Refused(e),
         CommitJudged::Accepts { n, c, count } => {
             write_first(b, n, c, count, out);
-            engine_rows::set_header(b, 2, time);
+            engine_rows::set_header(b, engine_rows::COMMIT_TIME, time);
             engine_moves::raise(b, n, c, time);
             let count = count as u64;
             CommitAnswer::Done { count }

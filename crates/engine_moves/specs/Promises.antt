@@ -20,7 +20,7 @@ use Rattle.engine_index.specs.Represents.{Cell, cell}
 use Rattle.engine_events.specs.Represents.{fitsIn, part, heldOf, Has, From, nonzero, Nodes, Holds}
 
 -- the bytes hold q, in cells that were among these
-pub record Becomes (p : Plan) (n c now : ℕ) (ys : List ℕ) (q : Queue) (cells : List Cell) : Type 0 where
+pub record HoldsAmong (p : Plan) (n c now : ℕ) (ys : List ℕ) (q : Queue) (cells : List Cell) : Type 0 where
   pub after : List Cell
   pub holds : Holds p n c now ys q after
   pub from : From cells after
@@ -46,7 +46,7 @@ abbrev pub HoldsEvent : ℕ → ℕ → List ℕ → Event → ℕ → List ℕ 
 HoldsEvent n c xs e r ys =
     (p : Plan) (now : ℕ) (q : Queue) (cells : List Cell) → Holds p n c now xs q cells → length cells < c → EventFits e → e .target < n
     → now ≤ e .time → e .time ≤ horizon → New e (q .held)
-    → Becomes p n c now ys (record { states = q .states; held = place e (q .held) }) (cell r (unrun e) ∷ cells)
+    → HoldsAmong p n c now ys (record { states = q .states; held = place e (q .held) }) (cell r (unrun e) ∷ cells)
 
 -- the first unrun event of its station has run, and its sends are at these nodes
 abbrev pub RunsEvent : ℕ → ℕ → List ℕ → ℕ → State → ℕ → ℕ → List ℕ → Type 0
@@ -54,21 +54,21 @@ RunsEvent n c xs x after first second ys =
     (p : Plan) (now : ℕ) (q : Queue) (cells : List Cell) (e : Event) → Holds p n c now xs q cells → Has (cell x (unrun e)) cells
     → leastUnrun (e .target) (q .held) ≡ some e → NoneLater e (q .held) → after ≡ runEvent p (q .states (e .target)) e .after → StateFits after
     → Nodes cells (nonzero first ++ nonzero second) (runEvent p (q .states (e .target)) e .sends)
-    → Becomes p n c now ys (record { states = update (q .states) (e .target) after; held = mark (e .target) (q .states (e .target)) (q .held) }) cells
+    → HoldsAmong p n c now ys (record { states = update (q .states) (e .target) after; held = mark (e .target) (q .states (e .target)) (q .held) }) cells
 
 -- the last run event of its station is unrun again, and the station's state is that from before it
 abbrev pub UnrunsEvent : ℕ → ℕ → List ℕ → ℕ → Bool → List ℕ → Type 0
 UnrunsEvent n c xs x r ys =
     (p : Plan) (now : ℕ) (q : Queue) (cells : List Cell) (e : Event) (b : State) → Holds p n c now xs q cells → Has (cell x (ran e b)) cells
     → NoneLater e (q .held) → NoneWaits e (q .held)
-    → (r ≡ true) × Becomes p n c now ys (record { states = update (q .states) (e .target) b; held = unmark e (q .held) }) cells
+    → (r ≡ true) × HoldsAmong p n c now ys (record { states = update (q .states) (e .target) b; held = unmark e (q .held) }) cells
 
 -- an unrun event leaves
 abbrev pub DiscardsEvent : ℕ → ℕ → List ℕ → ℕ → List ℕ → Type 0
 DiscardsEvent n c xs x ys =
     (p : Plan) (now : ℕ) (q : Queue) (cells : List Cell) (e : Event) → Holds p n c now xs q cells → Has (cell x (unrun e)) cells
     → Unsent p e (q .held)
-    → Becomes p n c now ys (record { states = q .states; held = delete e (q .held) }) cells
+    → HoldsAmong p n c now ys (record { states = q .states; held = delete e (q .held) }) cells
 
 -- the first of all held events, a run one, leaves
 abbrev pub ReleasesEvent : ℕ → ℕ → List ℕ → ℕ → List ℕ → Type 0

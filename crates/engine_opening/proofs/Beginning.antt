@@ -18,7 +18,7 @@ use Rattle.line.specs.Widths.{StateFits, ConfigFits}
 use Rattle.engine_records.proofs.Cells.{length-write, read-written, read-beside}
 use Rattle.engine_rows.proofs.Rows.{configOf, stateOf, config-in, state-in, stations, row-other, station-room}
 use Rattle.engine_promises.specs.Represents.{lineOf}
-use Rattle.engine_opening.specs.Steps.{Begun}
+use Rattle.engine_opening.specs.Steps.{StationsBegun}
 
 -- stations 0 to s - 1 have them
 pub record BegunTo (bytes : List ℕ) (n s : ℕ) (xs ys : List ℕ) : Type 0 where
@@ -29,7 +29,7 @@ pub record BegunTo (bytes : List ℕ) (n s : ℕ) (xs ys : List ℕ) : Type 0 wh
 pub begun-none : (bytes : List ℕ) (n : ℕ) (xs : List ℕ) → BegunTo bytes n 0 xs xs
 begun-none bytes n xs = record { size = refl; configs = λ l t h. absurd (omega arith); states = λ l t h. absurd (omega arith) }
 
-pub begun-all : {bytes : List ℕ} {n s : ℕ} {xs ys : List ℕ} → n ≤ s → BegunTo bytes n s xs ys → Begun bytes n xs ys
+pub begun-all : {bytes : List ℕ} {n s : ℕ} {xs ys : List ℕ} → n ≤ s → BegunTo bytes n s xs ys → StationsBegun bytes n xs ys
 begun-all h B = record { size = B .size; configs = λ l t k. B .configs l t (omega arith); states = λ l t k. B .states l t (omega arith) }
 
 -- the first state of a station with such numbers

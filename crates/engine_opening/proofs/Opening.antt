@@ -35,7 +35,7 @@ use Rattle.engine_answers.specs.declared.OpenAnswer.the-variants.{Done, Refused
 use Rattle.engine_promises.specs.Represents.{lineOf, Represents}
 use Rattle.engine_promises.specs.Answers.{openSays, openStation}
 use Rattle.engine_promises.specs.Promises.{openCases, Opens}
-use Rattle.engine_opening.specs.Steps.{Begun}
+use Rattle.engine_opening.specs.Steps.{StationsBegun}
 use Rattle.engine_promises.proofs.Header.{header-word, header-other, header-kept}
 
 pub few-stations : (plan : List ℕ) {n : ℕ} {r : ReadAnswer} → r ≡ judging plan → r ≡ Stations n → n ≤ 256
@@ -105,7 +105,7 @@ line-range plan n e =
     subst (λ (k : ℕ). InRange (record { count = k; config = λ s. stationAt plan s .config })) (accepted plan n e .counted) (accepted-in-range plan n e)
 
 module _ {plan : List ℕ} {n c width : ℕ} {xs ys zs : List ℕ} (e : judging plan ≡ Stations n) (g : 1 ≤ width) (h : width ≤ 1048576) (j : 2 ≤ c)
-    (k : c ≤ 4096) (l : 32768 + 256 * n + 256 * c ≤ length xs) (B : Begun plan n xs ys) (F : AfterHeader (headed n c ys) zs)
+    (k : c ≤ 4096) (l : 32768 + 256 * n + 256 * c ≤ length xs) (B : StationsBegun plan n xs ys) (F : AfterHeader (headed n c ys) zs)
     (C : ClearsEvents n c width (headed n c ys) zs) where
   a : Accepted plan n
   a = accepted plan n e
@@ -188,7 +188,7 @@ pub unread : {plan : List ℕ} {width capacity : ℕ} {xs : List ℕ} (r : Refus
 unread {width = width} {capacity = capacity} {xs = xs} r e = unopened r (ap (λ (a : ReadAnswer). opening a width capacity (length xs)) e)
 
 pub opened-call : {plan : List ℕ} {n c width : ℕ} {xs y₀ y₁ y₂ y₃ y₄ zs : List ℕ} → judging plan ≡ Stations n → 1 ≤ width → width ≤ 1048576 → 2 ≤ c
-    → c ≤ 4096 → 32768 + 256 * n + 256 * c ≤ length xs → Begun plan n xs y₀ → y₁ ≡ storeAt 8 0 n y₀ → y₂ ≡ storeAt 8 8 c y₁ → y₃ ≡ storeAt 8 16 0 y₂
+    → c ≤ 4096 → 32768 + 256 * n + 256 * c ≤ length xs → StationsBegun plan n xs y₀ → y₁ ≡ storeAt 8 0 n y₀ → y₂ ≡ storeAt 8 8 c y₁ → y₃ ≡ storeAt 8 16 0 y₂
     → y₄ ≡ storeAt 8 24 0 y₃ → AfterHeader y₄ zs → ClearsEvents n c width y₄ zs → Opens plan width c xs Done zs
 opened-call {plan} {n} {c} {width} {xs} {y₀} {y₁} {y₂} {y₃} {y₄} {zs} e g h j k l B a₁ a₂ a₃ a₄ F C =
     let q : y₄ ≡ headed n c y₀ = rw (a₄, a₃, a₂, a₁) in

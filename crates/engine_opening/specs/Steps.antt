@@ -9,7 +9,7 @@ use Rattle.engine_records.specs.Records.{stateAt, storedConfig}
 use Rattle.engine_promises.specs.Represents.{lineOf}
 
 -- stations 0 to n - 1 have the plan's numbers and their first states
-pub record Begun (plan : List ℕ) (n : ℕ) (xs ys : List ℕ) : Type 0 where
+pub record StationsBegun (plan : List ℕ) (n : ℕ) (xs ys : List ℕ) : Type 0 where
   pub size : length ys ≡ length xs
   pub configs : slotRow n 0 ≤ length xs → (s : ℕ) → s < n → storedConfig (stationRow n s) ys ≡ lineOf plan .config s
   pub states : slotRow n 0 ≤ length xs → (s : ℕ) → s < n → stateAt (stationRow n s + 32) ys ≡ initial (lineOf plan) s

@@ -5,7 +5,7 @@
 
 ghost use Prim.Native.Nat.{_≤_};
 ghost use Rattle.engine_promises.specs.Promises.{Opens};
-ghost use Rattle.engine_opening.specs.Steps.{Begun};
+ghost use Rattle.engine_opening.specs.Steps.{StationsBegun};
 use engine_answers::OpenAnswer;
 use line::State;
 use plan::ReadAnswer;
@@ -14,7 +14,7 @@ use refusal::Refusal;
 // Stations 0 to n - 1 get the plan's numbers and their first states.
 fn begin_stations(plan: &[u8], b: &mut [u8], n: u16)
     requires { ⌜ n ≤ 256 ⌝ }
-    ensures { λ _. ⌜ Begun (now (plan .entry)) n (now (b .entry)) (now (b .exit)) ⌝ }
+    ensures { λ _. ⌜ StationsBegun (now (plan .entry)) n (now (b .entry)) (now (b .exit)) ⌝ }
 {
     let mut s: u16 = 0;
     while s < n {

@@ -18,7 +18,7 @@ use Rattle.rules.specs.Engine.{Engine, Post, Retract, Posted}
 use Rattle.rules.specs.Checks.{checks}
 use Rattle.rules.specs.Calls.{postOf}
 use Rattle.words.specs.Le.{loadAt}
-use Rattle.engine_rows.specs.Layout.{slotRow}
+use Rattle.engine_rows.specs.Layout.{slotRow, freeStatus}
 use Rattle.entry.specs.Entry.{eventAt}
 use Rattle.engine_index.specs.Represents.{Cell, cell}
 use Rattle.engine_events.specs.Represents.{Has, Holds}
@@ -33,7 +33,7 @@ use Rattle.engine_posting.specs.declared.RetractJudged.the-variants as R
 -- does slot i hold a post with that number?
 unfoldable pub isPostAt : List ℕ → ℕ → ℕ → ℕ → Bool
 isPostAt xs n i number =
-    not (eqb (loadAt 2 (slotRow n i + 60) xs) 0)
+    not (eqb (loadAt 2 (slotRow n i + 60) xs) freeStatus)
     && (eqb (eventAt (slotRow n i) xs .source) posted && eqb (eventAt (slotRow n i) xs .number) number)
 
 -- x is the node of a held post with that number; 0 where there is none

@@ -50,10 +50,10 @@ fn judge_post(b: &[u8], station: u64, time: u64, kind: u64, value: u64) -> PostJ
     if HORIZON < time {
         return PostJudged::Refused(Refusal::Late);
     }
-    if time < engine_rows::header(b, 2) {
+    if time < engine_rows::header(b, engine_rows::COMMIT_TIME) {
         return PostJudged::Refused(Refusal::Early);
     }
-    let number = engine_rows::header(b, 3);
+    let number = engine_rows::header(b, engine_rows::NEXT_POST);
     if 4294967295 < number {
         return PostJudged::Refused(Refusal::Count);
     }
@@ -75,7 +75,7 @@ fn add_post(b: &mut [u8], n: u16, c: u16, e: Event) -> u64
     ensures { λ r. ⌜ AddsPost n c e (now (b .entry)) r (now (b .exit)) ⌝ }
 {
     let added = engine_rollback::add(b, n, c, e);
-    engine_rows::set_header(b, 3, e.number as u64 + 1);
+    engine_rows::set_header(b, engine_rows::NEXT_POST, e.number as u64 + 1);
     added.undone
 }
 
@@ -99,7 +99,7 @@ pub fn post(b: &mut [u8], station: u64, time: u64, kind: u64, value: u64) -> Pos
 fn is_post(b: &[u8], n: u16, i: u16, number: u64) -> bool
     ensures { λ r. ⌜ r ≡ isPostAt (now (b .entry)) n i number ⌝ }
 {
-    if engine_rows::number(b, n, i, 2) == 0 {
+    if engine_rows::number(b, n, i, engine_rows::STATUS) == engine_rows::FREE {
         return false;
     }
     let e = engine_rows::event(b, n, i);

@@ -3,6 +3,7 @@ use mathlib.Core.Path.{_≡_}
 use mathlib.Core.List.{List}
 use Prim.Native.Nat.{ℕ}
 use Rattle.words.specs.Le.{loadAt}
+use Rattle.engine_rows.specs.Layout.{wordPlace, capacityWord, commitWord, postWord, stationsWord}
 use Rattle.line.specs.Station.{Plan, InRange}
 use Rattle.rules.specs.Engine.{Engine, opened}
 use Rattle.rules.specs.Demand.{Made, Calls}
@@ -23,9 +24,9 @@ pub record Reached (p : Plan) (e : Engine) : Type 0 where
 pub record Represents (p : Plan) (e : Engine) (xs : List ℕ) : Type 0 where
   pub range : InRange p
   pub reached : Reached p e
-  pub stations : loadAt 8 0 xs ≡ p .count
-  pub capacity : loadAt 8 8 xs ≡ e .capacity
-  pub now : loadAt 8 16 xs ≡ e .now
-  pub next : loadAt 8 24 xs ≡ e .next
+  pub stations : loadAt 8 (wordPlace stationsWord) xs ≡ p .count
+  pub capacity : loadAt 8 (wordPlace capacityWord) xs ≡ e .capacity
+  pub now : loadAt 8 (wordPlace commitWord) xs ≡ e .now
+  pub next : loadAt 8 (wordPlace postWord) xs ≡ e .next
   pub cells : List Cell
   pub holds : Holds p (p .count) (e .capacity) (e .now) xs (e .queue) cells

@@ -2,11 +2,12 @@
 
 ghost use mathlib.Core.Path.{_≡_};
 ghost use Rattle.words.specs.Le.{loadAt};
+ghost use Rattle.engine_rows.specs.Layout.{wordPlace, capacityWord, stationsWord};
 ghost use Rattle.engine_promises.specs.Steps.{atMost};
 
 // The number of stations; 257 where it is more than 256.
 pub fn stations(b: &[u8]) -> u16
-    ensures { λ r. ⌜ r ≡ atMost 256 (loadAt 8 0 (now (b .entry))) ⌝ }
+    ensures { λ r. ⌜ r ≡ atMost 256 (loadAt 8 (wordPlace stationsWord) (now (b .entry))) ⌝ }
 {
     let n = engine_rows::header(b, engine_rows::STATIONS);
     if 256 < n {
@@ -17,7 +18,7 @@ pub fn stations(b: &[u8]) -> u16
 
 // The number of slots; 4097 where it is more than 4096.
 pub fn capacity(b: &[u8]) -> u16
-    ensures { λ r. ⌜ r ≡ atMost 4096 (loadAt 8 8 (now (b .entry))) ⌝ }
+    ensures { λ r. ⌜ r ≡ atMost 4096 (loadAt 8 (wordPlace capacityWord) (now (b .entry))) ⌝ }
 {
     let c = engine_rows::header(b, engine_rows::CAPACITY);
     if 4096 < c {

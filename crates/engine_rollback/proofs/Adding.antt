@@ -24,7 +24,7 @@ use Rattle.rules.proofs.Calls.Room.{does-length}
 use Rattle.line.specs.Widths.{EventFits}
 use Rattle.engine_index.specs.Represents.{Cell, cell}
 use Rattle.engine_events.specs.Represents.{From, heldOf}
-use Rattle.engine_moves.specs.Promises.{Becomes, New, HoldsEvent}
+use Rattle.engine_moves.specs.Promises.{HoldsAmong, New, HoldsEvent}
 use Rattle.engine_rollback.specs.BetweenSteps.{Mid, RollsTo}
 use Rattle.engine_rollback.proofs.Cells.{held-has, has-held, held-length, from-on, from-under}
 
@@ -76,7 +76,7 @@ module _ {p : Plan} {n c now : ℕ} {xs : List ℕ} {q : Queue} {cells : List Ce
       u : Queue
       u = undoFrom p q (e .target) e
 
-      B : Becomes p n c now ys u cells
+      B : HoldsAmong p n c now ys u cells
       B = C .becomes
 
       short : length (B .after) < c
@@ -86,5 +86,5 @@ module _ {p : Plan} {n c now : ℕ} {xs : List ℕ} {q : Queue} {cells : List Ce
       new : New e (u .held)
       new = subst (λ h. New e h) (B .holds .stores .held) (still-new e (B .from) (subst (λ h. New e h) (sym (M .holds .stores .held)) N))
 
-      D : Becomes p n c now zs (record { states = u .states; held = place e (u .held) }) (cell r (unrun e) ∷ B .after)
+      D : HoldsAmong p n c now zs (record { states = u .states; held = place e (u .held) }) (cell r (unrun e) ∷ B .after)
       D = T p now u (B .after) (B .holds) short fits inside early late new

@@ -15,7 +15,7 @@ use Rattle.rules.proofs.Undo.Agree.{clear-none}
 use Rattle.rules.proofs.Undo.Count.{delete-same-runs}
 use Rattle.engine_index.specs.Represents.{Cell, cell}
 use Rattle.engine_events.specs.Represents.{Has, Stores}
-use Rattle.engine_moves.specs.Promises.{Becomes, DiscardsEvent}
+use Rattle.engine_moves.specs.Promises.{HoldsAmong, DiscardsEvent}
 use Rattle.engine_rollback.specs.BetweenSteps.{Mid, RollsTo}
 use Rattle.engine_rollback.proofs.Cells.{has-held, from-same, from-on, same-node}
 use Rattle.engine_rollback.proofs.TakenOut.{is-held, is-waiting, fresh-unsent}
@@ -46,7 +46,7 @@ module _ {p : Plan} {n c now : ℕ} {xs : List ℕ} {q : Queue} {cells : List Ce
       U : Undone p (insertSorted e ws) st (e .target) e q r
       U = undo-from p (M .range) q (e .target) e (insertSorted e ws) st (M .ok)
 
-      B : Becomes p n c now ys r cells
+      B : HoldsAmong p n c now ys r cells
       B = C .becomes
 
       waits : In (unrun e) (r .held)
@@ -55,7 +55,7 @@ module _ {p : Plan} {n c now : ℕ} {xs : List ℕ} {q : Queue} {cells : List Ce
       stands : Has (cell x (unrun e)) (B .after)
       stands = same-node (M .holds .stores .stands .sorted) (B .from) m (subst (λ l. In (unrun e) l) (sym (B .holds .stores .held)) waits) refl
 
-      D : Becomes p n c now zs (record { states = r .states; held = delete e (r .held) }) (B .after)
+      D : HoldsAmong p n c now zs (record { states = r .states; held = delete e (r .held) }) (B .after)
       D = L p now r (B .after) e (B .holds) stands (fresh-unsent p e (r .held) (U .after .fresh e f))
 
   -- where none of them is run nothing is undone

@@ -24,7 +24,7 @@ use Rattle.engine_rows.specs.Layout.{slotRow}
 use Rattle.engine_index.specs.Layout.{slotOf}
 use Rattle.engine_index.specs.Represents.{Cell, cell}
 use Rattle.engine_events.specs.Represents.{Has, Holds, Nodes, none, nonzero, sendsAt}
-use Rattle.engine_moves.specs.Promises.{NoneWaits, Becomes}
+use Rattle.engine_moves.specs.Promises.{NoneWaits, HoldsAmong}
 use Rattle.engine_rollback.specs.BetweenSteps.{Mid, RollsTo}
 use Rattle.engine_rollback.specs.Promises.{RemovesBelow}
 use Rattle.engine_rollback.proofs.SendTargets.{sends-down}
@@ -68,7 +68,7 @@ module _ {p : Plan} {n c now : ℕ} {xs : List ℕ} {q : Queue} {cells : List Ce
   sent : All (Child e) es
   sent = both (λ y l d. record { later = l; down = d }) es (sends-later p (M .range) b e inside) (sends-down p (M .range) b e inside)
 
-  due-here : {ys : List ℕ} {ks : List ℕ} → (B : Becomes p n c now ys unrunning cells) → Nodes cells ks es
+  due-here : {ys : List ℕ} {ks : List ℕ} → (B : HoldsAmong p n c now ys unrunning cells) → Nodes cells ks es
       → Due p n c now ys unrunning (B .after) ks es ws st e
   due-here {ys} {ks} B K =
       let A = found-after p (M .range) q (e .target) e e b (unmark e (q .held)) ws st (M .ok) lat in
@@ -87,7 +87,7 @@ module _ {p : Plan} {n c now : ℕ} {xs : List ℕ} {q : Queue} {cells : List Ce
   kids = rw append-nil (M .holds .stores .kids x e b m)
 
   pub undone : {k₁ k₂ r₁ r₂ : ℕ} {ys zs us : List ℕ} → k₁ ≡ loadAt 2 (slotRow n (slotOf n x) + 56) xs → k₂ ≡ loadAt 2 (slotRow n (slotOf n x) + 58) xs
-      → Becomes p n c now ys unrunning cells
+      → HoldsAmong p n c now ys unrunning cells
       → (k₁ ≡ 0 → (r₁ ≡ 0) × (zs ≡ ys)) → RemovesBelow n c ys (e .target) k₁ r₁ zs
       → (k₂ ≡ 0 → (r₂ ≡ 0) × (us ≡ zs)) → RemovesBelow n c zs (e .target) k₂ r₂ us
       → RollsTo p n c now (1 + r₁ + r₂) q us (undoEvent p q (e .target) e b (unmark e (q .held))) cells

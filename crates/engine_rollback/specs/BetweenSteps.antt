@@ -9,7 +9,7 @@ use Rattle.rules.specs.Executable.{runs}
 use Rattle.rules.specs.Replay.{Replayed, Neat}
 use Rattle.engine_index.specs.Represents.{Cell}
 use Rattle.engine_events.specs.Represents.{Holds}
-use Rattle.engine_moves.specs.Promises.{Becomes}
+use Rattle.engine_moves.specs.Promises.{HoldsAmong}
 
 -- the bytes hold q, which is in order and a replay of the machine with the waiting events ws and the states st
 pub record Mid (p : Plan) (n c now : ℕ) (xs : List ℕ) (q : Queue) (cells : List Cell) (ws : List Event) (st : States) : Type 0 where
@@ -20,5 +20,5 @@ pub record Mid (p : Plan) (n c now : ℕ) (xs : List ℕ) (q : Queue) (cells : L
 
 -- the bytes come to hold r, in cells that were among these, and k events are undone on the way
 pub record RollsTo (p : Plan) (n c now k : ℕ) (q : Queue) (ys : List ℕ) (r : Queue) (cells : List Cell) : Type 0 where
-  pub becomes : Becomes p n c now ys r cells
+  pub becomes : HoldsAmong p n c now ys r cells
   pub undone : k + runs (r .held) ≡ runs (q .held)

@@ -52,7 +52,7 @@ use Rattle.engine_index.proofs.Places.FoundSlot.{FindsSlot}
 use Rattle.engine_index.specs.Represents.{cell}
 use Rattle.engine_events.specs.Represents.{nonzero, Nodes, none}
 use Rattle.engine_events.specs.Promises.{AfterHeader}
-use Rattle.engine_moves.specs.Promises.{RunsEvent, Becomes}
+use Rattle.engine_moves.specs.Promises.{RunsEvent, HoldsAmong}
 use Rattle.engine_rollback.proofs.Cells.{held-length}
 use Rattle.engine_promises.specs.Represents.{Represents}
 use Rattle.engine_promises.specs.Promises as P
@@ -257,10 +257,10 @@ module _ {p : Plan} {e : Engine} {xs : List ℕ} (R : Represents p e xs) {s x : 
             let k = unrun-clear w (two .left .held) (two .mid .neat .strict) (two .mid .neat .blocked) (first-in (two .first)) in
             asym (run-in (λ y c. y .target ≡ w .target → Lt y w) z a (two .left .held) m k j) .is
 
-        becomes : Becomes p (p .count) (e .capacity) (e .now) us left (two .cells)
+        becomes : HoldsAmong p (p .count) (e .capacity) (e .now) us left (two .cells)
         unfolding made-of
         becomes =
-            subst (λ u. Becomes p (p .count) (e .capacity) (e .now) us u (two .cells)) left-is
+            subst (λ u. HoldsAmong p (p .count) (e .capacity) (e .now) us u (two .cells)) left-is
             (T p (e .now) (two .left) (two .cells) w (two .mid .holds) (two .at) (first-least (two .first)) later
             (after-is ∙ ap (λ c. runEvent p c w .after) (sym (two .state))) state-fit
             (subst (Nodes (two .cells) (nonzero n1 ++ nonzero n2)) (sym sends-are ∙ ap (λ c. runEvent p c w .sends) (sym (two .state))) (two .nodes)))

@@ -30,7 +30,7 @@ use Rattle.rules.proofs.Calls.Room.{does-length}
 use Rattle.line.specs.Widths.{EventFits}
 use Rattle.engine_index.specs.Represents.{Cell, cell}
 use Rattle.engine_events.specs.Represents.{heldOf, Has, nonzero, Nodes}
-use Rattle.engine_moves.specs.Promises.{New, Becomes}
+use Rattle.engine_moves.specs.Promises.{New, HoldsAmong}
 use Rattle.engine_moves.proofs.Cells.Members.{member}
 use Rattle.engine_rollback.specs.BetweenSteps.{Mid, RollsTo}
 use Rattle.engine_rollback.specs.Promises.{Adds}
@@ -120,7 +120,7 @@ module _ {p : Plan} {n c now : ℕ} {q u : Queue} {x : ℕ} {e : Event} {xs : Li
       D p now (s .left) (s .cells) (s .waiting) (s .states) (s .mid) (omega (arith, s .room)) (R .fits) (omega (arith, R .inside, s .mid .holds .stores .count))
       (R .early) (R .late) new
 
-  B : Becomes p n c now ys after (cell node (unrun y) ∷ s .cells)
+  B : HoldsAmong p n c now ys after (cell node (unrun y) ∷ s .cells)
   B = comes .becomes
 
   held-is : heldOf (B .after) ≡ after .held

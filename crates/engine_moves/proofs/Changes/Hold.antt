@@ -19,7 +19,7 @@ use Rattle.engine_index.specs.Represents.{Cell, cell, Stands, AllBefore, AllAft
 use Rattle.engine_index.specs.Promises.{Puts}
 use Rattle.engine_index.proofs.Changes.ToRules.{place-cells}
 use Rattle.engine_events.specs.Represents.{heldOf, Holds}
-use Rattle.engine_moves.specs.Promises.{Becomes, HoldsEvent, New}
+use Rattle.engine_moves.specs.Promises.{HoldsAmong, HoldsEvent, New}
 use Rattle.engine_moves.specs.Steps.{Tells}
 use Rattle.engine_events.proofs.CalendarPart.{part-kept}
 use Rattle.engine_moves.proofs.Cells.Split.{beside-in, run-beside, from-join, length-middle, held-map}
@@ -33,7 +33,7 @@ module _ (n c : ℕ) (e : Event) (r : ℕ) {xs ys zs : List ℕ} (F : Frame (slo
   -- the cells are in two parts, and a slot is free
   takes-at : (p : Plan) (now : ℕ) (q : Queue) (A B : List Cell) (x : ℕ) (fs : List ℕ) → (H : Holds p n c now xs q (A ++ B)) → H .stores .free ≡ x ∷ fs
       → EventFits e → e .target < n → now ≤ e .time → e .time ≤ horizon → AllBefore A e → AllAfter e B
-      → Becomes p n c now zs (record { states = q .states; held = place e (q .held) }) (cell r (unrun e) ∷ (A ++ B))
+      → HoldsAmong p n c now zs (record { states = q .states; held = place e (q .held) }) (cell r (unrun e) ∷ (A ++ B))
   takes-at p now q A B x fs H free fits l low high a b =
       let S = H .stores in
       let y : Cell = cell r (unrun e) in
@@ -56,15 +56,15 @@ module _ (n c : ℕ) (e : Event) (r : ℕ) {xs ys zs : List ℕ} (F : Frame (slo
 
   takes-parted : (p : Plan) (now : ℕ) (q : Queue) (A B : List Cell) → Holds p n c now xs q (A ++ B) → length (A ++ B) < c
       → EventFits e → e .target < n → now ≤ e .time → e .time ≤ horizon → AllBefore A e → AllAfter e B
-      → Becomes p n c now zs (record { states = q .states; held = place e (q .held) }) (cell r (unrun e) ∷ (A ++ B))
+      → HoldsAmong p n c now zs (record { states = q .states; held = place e (q .held) }) (cell r (unrun e) ∷ (A ++ B))
   takes-parted p now q A B H room fits l low high a b = go (H .stores .free) refl
     where
-      go : (f : List ℕ) → H .stores .free ≡ f → Becomes p n c now zs (record { states = q .states; held = place e (q .held) }) (cell r (unrun e) ∷ (A ++ B))
+      go : (f : List ℕ) → H .stores .free ≡ f → HoldsAmong p n c now zs (record { states = q .states; held = place e (q .held) }) (cell r (unrun e) ∷ (A ++ B))
       go [] i = absurd (omega (arith, H .stores .places, ap length i))
       go (x ∷ fs) i = takes-at p now q A B x fs H i fits l low high a b
 
   pub takes : HoldsEvent n c xs e r zs
   takes p now q cells H room fits l low high new =
       let R = order-split e cells (H .stores .stands .sorted) (subst (New e) (sym (H .stores .held)) new) in
-      subst (λ w. Holds p n c now xs q w → length w < c → Becomes p n c now zs (record { states = q .states; held = place e (q .held) }) (cell r (unrun e) ∷ w))
+      subst (λ w. Holds p n c now xs q w → length w < c → HoldsAmong p n c now zs (record { states = q .states; held = place e (q .held) }) (cell r (unrun e) ∷ w))
       (sym (R .whole)) (λ J m. takes-parted p now q (R .front) (R .back) J m fits l low high (R .earlier) (R .later)) H room

@@ -27,7 +27,7 @@ use Rattle.engine_index.specs.Represents.{Cell, cell, Stands}
 use Rattle.engine_index.specs.Promises.{Drops, Releases as IndexReleases}
 use Rattle.engine_index.proofs.Changes.ToRules.{delete-cells}
 use Rattle.engine_events.specs.Represents.{heldOf, Has, Stores, Holds}
-use Rattle.engine_moves.specs.Promises.{Becomes, ReleasesEvent, Unsent}
+use Rattle.engine_moves.specs.Promises.{HoldsAmong, ReleasesEvent, Unsent}
 use Rattle.engine_moves.specs.Steps.{Tells}
 use Rattle.engine_events.proofs.CalendarPart.{part-kept}
 use Rattle.engine_moves.proofs.Cells.Split.{at-split, beside-or, beside-in, from-leave, length-middle, held-map, held-in, in-held}
@@ -60,15 +60,15 @@ module _ (n c x : ℕ) {xs ys : List ℕ} (F : Frame (slotRow n 0) (indexBytes n
 
   pub leaves : (e : Event) {zs : List ℕ} → Drops n c xs x ys → Tells n c (e .target) ys zs
       → (p : Plan) (now : ℕ) (q : Queue) (cells : List Cell) → Holds p n c now xs q cells → Has (cell x (unrun e)) cells → Unsent p e (q .held)
-      → Becomes p n c now zs (record { states = q .states; held = delete e (q .held) }) cells
+      → HoldsAmong p n c now zs (record { states = q .states; held = delete e (q .held) }) cells
   leaves e {zs} P T p now q cells H m w =
-      at-split (λ l. Holds p n c now xs q l → Becomes p n c now zs (record { states = q .states; held = delete e (q .held) }) l) (cell x (unrun e)) cells m at H
+      at-split (λ l. Holds p n c now xs q l → HoldsAmong p n c now zs (record { states = q .states; held = delete e (q .held) }) l) (cell x (unrun e)) cells m at H
     where
       y : Cell
       y = cell x (unrun e)
 
       at : (A B : List Cell) → Holds p n c now xs q (A ++ y ∷ B)
-          → Becomes p n c now zs (record { states = q .states; held = delete e (q .held) }) (A ++ y ∷ B)
+          → HoldsAmong p n c now zs (record { states = q .states; held = delete e (q .held) }) (A ++ y ∷ B)
       at A B K =
           let S = K .stores in
           let D = P A B e (S .free) (S .stands) in

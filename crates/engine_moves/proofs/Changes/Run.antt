@@ -25,7 +25,7 @@ use Rattle.engine_index.specs.Promises.{Marks}
 use Rattle.engine_index.proofs.Changes.ToRules.{mark-cells}
 use Rattle.engine_index.proofs.Slots.SlotBytes.{state-frame}
 use Rattle.engine_events.specs.Represents.{part, heldOf, Has, nonzero, sendsAt, Nodes, Kids, Stores, Calendared, Holds}
-use Rattle.engine_moves.specs.Promises.{Becomes}
+use Rattle.engine_moves.specs.Promises.{HoldsAmong}
 use Rattle.engine_moves.specs.Steps.{Tells}
 use Rattle.engine_events.proofs.CalendarPart.{part-kept}
 use Rattle.engine_moves.proofs.Cells.Split.{at-split, beside-or, beside-in, middle-in, from-swap, length-swap, held-map}
@@ -47,7 +47,7 @@ module _ (n c x : ℕ) (e : Event) (v after : State) {xs ys zs : List ℕ} (F : 
   marked-at : (p : Plan) (now : ℕ) (q : Queue) (A B : List Cell) → Holds p n c now xs q (A ++ cell x (unrun e) ∷ B) → StateFits v → StateFits after
       → leastUnrun (e .target) (q .held) ≡ some e → NoneLater e (q .held)
       → Nodes (A ++ cell x (unrun e) ∷ B) (sendsAt n x xs) (runEvent p v e .sends)
-      → Becomes p n c now zs (After q) (A ++ cell x (unrun e) ∷ B)
+      → HoldsAmong p n c now zs (After q) (A ++ cell x (unrun e) ∷ B)
   marked-at p now q A B H fits room first later sends =
       let S = H .stores in
       let o : Cell = cell x (unrun e) in
@@ -107,11 +107,11 @@ module _ (n c x : ℕ) (e : Event) (v after : State) (first second : ℕ) (xs : 
       → (p : Plan) (now : ℕ) (q : Queue) (cells : List Cell) → Holds p n c now xs q cells → Has (cell x (unrun e)) cells → StateFits v → StateFits after
       → leastUnrun (e .target) (q .held) ≡ some e → NoneLater e (q .held)
       → Nodes cells (nonzero first ++ nonzero second) (runEvent p v e .sends)
-      → Becomes p n c now zs (record { states = update (q .states) (e .target) after; held = mark (e .target) v (q .held) }) cells
+      → HoldsAmong p n c now zs (record { states = update (q .states) (e .target) after; held = mark (e .target) v (q .held) }) cells
   runs F N P T h k p now q cells H m fits room least later sends =
       at-split
       (λ l. Holds p n c now (notedIn n x first second xs) q l → Nodes l (sendsAt n x (notedIn n x first second xs)) (runEvent p v e .sends)
-      → Becomes p n c now zs (record { states = update (q .states) (e .target) after; held = mark (e .target) v (q .held) }) l)
+      → HoldsAmong p n c now zs (record { states = update (q .states) (e .target) after; held = mark (e .target) v (q .held) }) l)
       (cell x (unrun e)) cells m (λ A B K w. marked-at n c x e v after F N P T p now q A B K fits room least later w) J
       (rw (sends-noted n x first second xs (omega (arith, H .stores .stands .room, slot)) h k) sends)
     where

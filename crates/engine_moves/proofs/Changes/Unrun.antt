@@ -22,7 +22,7 @@ use Rattle.engine_index.specs.Promises.{Unmarks}
 use Rattle.engine_index.proofs.Changes.ToRules.{unmark-cells}
 use Rattle.engine_index.proofs.Slots.SlotBytes.{state-frame}
 use Rattle.engine_events.specs.Represents.{heldOf, Has, Holds}
-use Rattle.engine_moves.specs.Promises.{Becomes, NoneWaits}
+use Rattle.engine_moves.specs.Promises.{HoldsAmong, NoneWaits}
 use Rattle.engine_moves.specs.Steps.{Tells}
 use Rattle.engine_events.proofs.CalendarPart.{part-kept}
 use Rattle.engine_moves.proofs.Cells.Split.{at-split, beside-in, run-beside, middle-in, from-swap, length-swap, held-map}
@@ -38,7 +38,7 @@ module _ (n c x : ℕ) (e : Event) (b : State) {xs ys zs : List ℕ} (F : Frame 
   After q = record { states = update (q .states) (e .target) b; held = unmark e (q .held) }
 
   unrun-at : (p : Plan) (now : ℕ) (q : Queue) (A B : List Cell) → Holds p n c now xs q (A ++ cell x (ran e b) ∷ B) → StateFits b
-      → NoneLater e (q .held) → NoneWaits e (q .held) → Becomes p n c now zs (After q) (A ++ cell x (ran e b) ∷ B)
+      → NoneLater e (q .held) → NoneWaits e (q .held) → HoldsAmong p n c now zs (After q) (A ++ cell x (ran e b) ∷ B)
   unrun-at p now q A B H fits later waits =
       let S = H .stores in
       let o : Cell = cell x (ran e b) in
@@ -69,7 +69,7 @@ module _ (n c x : ℕ) (e : Event) (b : State) {xs ys zs : List ℕ} (F : Frame 
 
   -- the state from before it stands in bytes, so that it fits
   pub unruns : (p : Plan) (now : ℕ) (q : Queue) (cells : List Cell) → Holds p n c now xs q cells → Has (cell x (ran e b)) cells → StateFits b
-      → NoneLater e (q .held) → NoneWaits e (q .held) → Becomes p n c now zs (After q) cells
+      → NoneLater e (q .held) → NoneWaits e (q .held) → HoldsAmong p n c now zs (After q) cells
   unruns p now q cells H m fits later waits =
-      at-split (λ l. Holds p n c now xs q l → Becomes p n c now zs (After q) l) (cell x (ran e b)) cells m
+      at-split (λ l. Holds p n c now xs q l → HoldsAmong p n c now zs (After q) l) (cell x (ran e b)) cells m
       (λ A B K. unrun-at p now q A B K fits later waits) H

@@ -26,7 +26,7 @@ use Rattle.engine_index.specs.Promises.{Marks}
 use Rattle.engine_index.proofs.Slots.SlotBytes.{state-frame}
 use Rattle.engine_events.specs.Represents.{Has, nonzero, Nodes}
 use Rattle.engine_events.specs.Promises.{AfterHeader}
-use Rattle.engine_moves.specs.Promises.{Becomes, RunsEvent}
+use Rattle.engine_moves.specs.Promises.{HoldsAmong, RunsEvent}
 use Rattle.engine_moves.specs.Steps.{Tells}
 use Rattle.engine_events.proofs.AfterHeader.{after-header, after-header-same, after-header-on}
 use Rattle.engine_moves.proofs.Changes.Run.{notedIn, runs}
@@ -79,7 +79,7 @@ module _ (n c x : ℕ) (after : State) (first second : ℕ) where
       On p now q cells f a =
           Has (cell x (unrun f)) cells → leastUnrun (f .target) (q .held) ≡ some f → NoneLater f (q .held)
           → Nodes cells (nonzero first ++ nonzero second) (runEvent p a f .sends)
-          → Becomes p n c now zs (record { states = update (q .states) (f .target) after; held = mark (f .target) a (q .held) }) cells
+          → HoldsAmong p n c now zs (record { states = update (q .states) (f .target) after; held = mark (f .target) a (q .held) }) cells
 
       ran-on : RunsEvent n c xs x after first second zs
       ran-on p now q cells f H m least later _ room nodes =

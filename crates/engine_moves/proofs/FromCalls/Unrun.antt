@@ -29,7 +29,7 @@ use Rattle.engine_index.proofs.Places.FoundSlot.{finds}
 use Rattle.engine_events.specs.Represents.{fitsIn, Has, Stores}
 use Rattle.engine_moves.specs.RunCount.{runsBelow}
 use Rattle.engine_events.specs.Promises.{AfterHeader}
-use Rattle.engine_moves.specs.Promises.{Becomes, UnrunsEvent, NoneWaits}
+use Rattle.engine_moves.specs.Promises.{HoldsAmong, UnrunsEvent, NoneWaits}
 use Rattle.engine_moves.specs.Answers.{hasRunAt}
 use Rattle.engine_moves.specs.Steps.{Tells}
 use Rattle.engine_events.proofs.AfterHeader.{after-header, after-header-same, after-header-on}
@@ -110,7 +110,7 @@ module _ (n c x : ℕ) where
 
       Back : Plan → ℕ → Queue → List Cell → Event → State → Type 0
       Back p now q cells f a = Has (cell x (ran f a)) cells → NoneLater f (q .held) → NoneWaits f (q .held)
-          → Becomes p n c now zs (record { states = update (q .states) (f .target) a; held = unmark f (q .held) }) cells
+          → HoldsAmong p n c now zs (record { states = update (q .states) (f .target) a; held = unmark f (q .held) }) cells
 
       back : UnrunsEvent n c xs x true zs
       back p now q cells f a H m later waits =
