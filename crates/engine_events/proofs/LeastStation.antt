@@ -106,4 +106,9 @@ pub nothing-slot : (n c : ℕ) (xs : List ℕ) → c ≤ 0 → Nothing n c xs
 nothing-slot n c xs z p now q cells H = omega (arith, H .stores .some)
 
 pub finds-none : (n c : ℕ) (xs : List ℕ) → Nothing n c xs → Finds n c xs (NoLeast Idle)
-finds-none n c xs N = record { unfit = λ _. refl; idle = λ p now q cells H e k. absurd (N p now q cells H); none = λ p now q cells H e k. absurd (N p now q cells H); some = λ p now q cells H s t k. absurd (N p now q cells H) }
+finds-none n c xs N = record {
+  unfit = λ _. refl;
+  idle = λ p now q cells H e k. absurd (N p now q cells H);
+  none = λ p now q cells H e k. absurd (N p now q cells H);
+  some = λ p now q cells H s t k. absurd (N p now q cells H);
+}

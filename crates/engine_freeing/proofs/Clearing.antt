@@ -201,7 +201,9 @@ unfolding filled
 filled-on xs n o k i {x} {ys} {zs} {us} ey ez ex eu =
     let a : slotRow n i + 56 + 2 * 2 ≡ slotRow n i + 60 = omega arith in
     let p : x - 1 ≡ 2 * n + i = omega arith in
-    rw (add-one, ← ey) (eu ∙ ap₂ (λ (y z : ℕ). linkAfter zs o k y z) p ex ∙ ap (λ (t : List ℕ). linkAfter t o k (2 * n + i) (2 * n + 1 + i)) (ez ∙ ap (λ (m : ℕ). storeAt 2 m 0 ys) a))
+    rw (add-one, ← ey)
+    (eu ∙ ap₂ (λ (y z : ℕ). linkAfter zs o k y z) p ex
+    ∙ ap (λ (t : List ℕ). linkAfter t o k (2 * n + i) (2 * n + 1 + i)) (ez ∙ ap (λ (m : ℕ). storeAt 2 m 0 ys) a))
 
 pub emptied-none : (xs : List ℕ) (o k : ℕ) → xs ≡ emptied xs o k 0
 unfolding emptied

@@ -5,10 +5,14 @@ use Rattle.engine_ends.proofs.first_free.Statement.{statement}
 use Rattle.engine_ends.proofs.first_free.Tie as tie
 
 returns : tie.Need-returns
-returns c = free-some _ _ _ (c .before .before .before .before .if1 .taken) (c .before .before .before .free-ring .ensures) (c .before .before .links .ensures) (c .before .next .ensures) (c .if2 .taken)
+returns c =
+    let u = c .before .before .before in
+    free-some _ _ _ (u .before .if1 .taken) (u .free-ring .ensures) (c .before .before .links .ensures) (c .before .next .ensures) (c .if2 .taken)
 
 returns-2 : tie.Need-returns-2
-returns-2 c = free-none _ _ _ (c .before .before .before .before .if1 .taken) (c .before .before .before .free-ring .ensures) (c .before .before .links .ensures) (c .before .next .ensures) (c .if2 .left)
+returns-2 c =
+    let u = c .before .before .before in
+    free-none _ _ _ (u .before .if1 .taken) (u .free-ring .ensures) (c .before .before .links .ensures) (c .before .next .ensures) (c .if2 .left)
 
 returns-3 : tie.Need-returns-3
 returns-3 c = free-many _ _ _ (c .if1 .left)

@@ -5,10 +5,16 @@ use Rattle.engine_ends.proofs.first_run.Statement.{statement}
 use Rattle.engine_ends.proofs.first_run.Tie as tie
 
 returns : tie.Need-returns
-returns c = first-run-some _ _ _ _ (c .before .before .before .before .before .if1 .taken) (c .before .before .before .before .if2 .taken) (c .before .before .before .run-ring .ensures) (c .before .before .links .ensures) (c .before .next .ensures) (c .if3 .taken)
+returns c =
+    let u = c .before .before .before in
+    first-run-some _ _ _ _ (u .before .before .if1 .taken) (u .before .if2 .taken) (u .run-ring .ensures) (c .before .before .links .ensures)
+    (c .before .next .ensures) (c .if3 .taken)
 
 returns-2 : tie.Need-returns-2
-returns-2 c = first-run-none _ _ _ _ (c .before .before .before .before .before .if1 .taken) (c .before .before .before .before .if2 .taken) (c .before .before .before .run-ring .ensures) (c .before .before .links .ensures) (c .before .next .ensures) (c .if3 .left)
+returns-2 c =
+    let u = c .before .before .before in
+    first-run-none _ _ _ _ (u .before .before .if1 .taken) (u .before .if2 .taken) (u .run-ring .ensures) (c .before .before .links .ensures)
+    (c .before .next .ensures) (c .if3 .left)
 
 returns-3 : tie.Need-returns-3
 returns-3 c = first-run-many _ _ _ _ (c .before .if1 .taken) (c .if2 .left)

@@ -30,10 +30,13 @@ range : (c : tie.Then1) → (start c .args .n ≤ 256) × (start c .args .c ≤ 
 range c = found-range _ _ (start c .args .b .now) (start c .args .x) (finds (c .before .slot-in .ensures)) (c .if1 .taken)
 
 -- the ring of the run events
-ring : (c : tie.After-log) → c .before .before .before .before .before .before .run-ring .result ≡ runRing (start (found (sized (out c))) .args .n) (sized (out c) .before .before .before .event .result .target)
+ring : (c : tie.After-log)
+    → let k = sized (out c) in
+    c .before .before .before .before .before .before .run-ring .result ≡ runRing (start (found k) .args .n) (k .before .before .before .event .result .target)
 ring c =
     let k = sized (out c) in
-    run-ring-in _ (start (found k) .args .c) (range (found k) .0) _ (k .before .before .if2 .taken) (c .before .before .before .before .before .before .run-ring .ensures)
+    run-ring-in _ (start (found k) .args .c) (range (found k) .0) _ (k .before .before .if2 .taken)
+    (c .before .before .before .before .before .before .run-ring .ensures)
 
 -- ---- the event is filed in the log after the last one, or by a walk
 

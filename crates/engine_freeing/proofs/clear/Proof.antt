@@ -29,7 +29,8 @@ returns c =
     let k = sized e in
     let f = ranged k in
     let r = range f in
-    clear-made (start f .args .n) (start f .args .c) _ (k .before .links .ensures) (nodes-in _ _ (r .0) (r .1) (k .nodes .ensures)) (node-in _ _ (r .0) (r .1) 0 (omega arith) (e .before .node-of .ensures)) (e .empty-rings .ensures)
+    clear-made (start f .args .n) (start f .args .c) _ (k .before .links .ensures) (nodes-in _ _ (r .0) (r .1) (k .nodes .ensures))
+    (node-in _ _ (r .0) (r .1) 0 (omega arith) (e .before .node-of .ensures)) (e .empty-rings .ensures)
     (s .free-slots .ensures) (log-in _ _ (r .0) (r .1) (c .before .before .before .log .ensures)) (c .before .before .make-empty .ensures)
 
 returns-2 : tie.Need-returns-2

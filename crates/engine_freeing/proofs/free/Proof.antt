@@ -29,8 +29,9 @@ returns c =
     let f = found u in
     let a = start f .args in
     let r = range f in
-    free-made (a .n) (a .c) (a .b .now) (a .x) (finds (f .before .slot-in .ensures)) (f .if1 .taken) (u .before .before .before .before .before .before .before .links .ensures)
-    (nodes-in _ _ (r .0) (r .1) (u .before .before .before .before .before .before .nodes .ensures)) (u .before .before .before .before .set-number .ensures .0 (omega arith)) (u .unlink .ensures)
+    let k = u .before .before .before .before .before .before in
+    free-made (a .n) (a .c) (a .b .now) (a .x) (finds (f .before .slot-in .ensures)) (f .if1 .taken) (k .before .links .ensures)
+    (nodes-in _ _ (r .0) (r .1) (k .nodes .ensures)) (u .before .before .before .before .set-number .ensures .0 (omega arith)) (u .unlink .ensures)
     (link-of _ _ _ _ (c .before .before .insert-after .ensures) (free-ring-in _ (a .c) (r .0) (c .before .before .before .free-ring .ensures)))
 
 returns-2 : tie.Need-returns-2

@@ -38,7 +38,8 @@ loop-again c =
     let p = t .before .before .before .pre in (
       omega arith,
       i .kept .0 ∙ s .set-number .kept .0 ∙ l .1,
-      filled-on _ _ _ _ _ (l .2) (s .set-number .ensures .0 (lit< tt)) (node-in _ _ (p .0) (p .1) _ (omega (arith, t .loop-test .taken)) (x .node-of .ensures)) (i .ensures),
+      filled-on _ _ _ _ _ (l .2) (s .set-number .ensures .0 (lit< tt))
+          (node-in _ _ (p .0) (p .1) _ (omega (arith, t .loop-test .taken)) (x .node-of .ensures)) (i .ensures),
     )
 
 returns : tie.Need-returns Inv-loop μ-loop

@@ -29,7 +29,10 @@ returns-3 c =
     let h = c .before .before .hold .ensures in
     let q = p .before .before in (
       after-header-on (u .0) (h .0),
-      (omega (arith, u .1 .0, runs-few (a .n) (a .b .now) (a .c)), (adds _ _ _ (u .1 .1) (h .1 .0), (λ o. absurd (in-range o (q .before .if1 .left) (q .if2 .left))))),
+      (
+        omega (arith, u .1 .0, runs-few (a .n) (a .b .now) (a .c)),
+        (adds _ _ _ (u .1 .1) (h .1 .0), (λ o. absurd (in-range o (q .before .if1 .left) (q .if2 .left)))),
+      ),
     )
 
 pub add-spec : {M : Type 1} → statement M
