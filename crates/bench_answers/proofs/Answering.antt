@@ -21,10 +21,11 @@ use Rattle.bench_command.specs.declared.Output.the-variants as Out
 use Rattle.bench_command.specs.declared.Parsed.{Parsed}
 use Rattle.bench_command.specs.declared.Parsed.the-variants as Says
 use Rattle.bench_command.specs.Lines.{commandLine, FitsAll, outputOf, LineSaid, Asks, Refuses, parsedSaid}
-use Rattle.bench_parsing.specs.Parsing.{Parses}
-use Rattle.bench_printing.specs.Printing.{Prints}
+use Rattle.bench_parsing.specs.Promises.{Parses}
+use Rattle.bench_printing.specs.Promises.{Prints}
 use Rattle.bench_answers.specs.Shown.{callOf, entryLines, linesOf, openLines}
-use Rattle.bench_answers.specs.Promises.{Written, InText, Opening, Obeyed, Replied, obeyed, unread, Obeys}
+use Rattle.bench_answers.specs.Promises.{Written, InText, Opening, Obeyed, Replied, obeyed, unread}
+use Rattle.bench_answers.specs.Steps.{ObeysCommand}
 use Rattle.bench_answers.proofs.Printed.{one-line}
 
 -- the line that a refusal prints
@@ -36,13 +37,13 @@ no-line {n} {o} {before} {r} {after} room eo p =
 -- ---- a command
 
 -- by another name of the command
-pub obeys-as : {c d : Command} {xs ys before : List ℕ} {r : ℕ} {after : List ℕ} → c ≡ d → Obeys d xs before r ys after → Obeys c xs before r ys after
-obeys-as {c} {d} {xs} {ys} {before} {r} {after} e O = subst (λ (x : Command). Obeys x xs before r ys after) (sym e) O
+pub obeys-as : {c d : Command} {xs ys before : List ℕ} {r : ℕ} {after : List ℕ} → c ≡ d → ObeysCommand d xs before r ys after → ObeysCommand c xs before r ys after
+obeys-as {c} {d} {xs} {ys} {before} {r} {after} e O = subst (λ (x : Command). ObeysCommand x xs before r ys after) (sym e) O
 
 -- one whose answer is one line
 pub obeys-line : {c : Command} {said : Answer} {xs ys before : List ℕ} {r : ℕ} {after : List ℕ} (o : Output) (d : Command) → c ≡ d
     → 6240 ≤ length before → Answered (callOf d (replicate 1536 0)) said xs ys → outputOf o ≡ linesOf said → Prints (outputOf o) 0 before r after
-    → Obeys c xs before r ys after
+    → ObeysCommand c xs before r ys after
 obeys-line {c} {said} {xs} {ys} {before} {r} {after} o d e room A el p =
     obeys-as e
     (record {
@@ -57,7 +58,7 @@ module _ {time : ℕ} {a : CommitAnswer} {xs ys output left before : List ℕ} {
   where
     pub obeys-commit : (count : ℕ) → a ≡ C.Done count
         → Written (entryLines (min count 64) left ++ outputOf (Out.Commit count)) before r after
-        → Obeys (Line.Commit time) xs before r ys after
+        → ObeysCommand (Line.Commit time) xs before r ys after
     unfolding linesOf
     obeys-commit count e w = record {
       printed = entryLines (min count 64) left ++ outputOf (Out.Commit count);
@@ -72,7 +73,7 @@ module _ {time : ℕ} {a : CommitAnswer} {xs ys output left before : List ℕ} {
     }
 
     pub obeys-refused : (e : Refusal) → a ≡ C.Refused e → Written (outputOf (Out.No (numberOf e))) before r after
-        → Obeys (Line.Commit time) xs before r ys after
+        → ObeysCommand (Line.Commit time) xs before r ys after
     unfolding linesOf
     obeys-refused e q w = record {
       printed = outputOf (Out.No (numberOf e));
@@ -108,7 +109,7 @@ is-done printed room d w = record {
 }
 
 module _ {line xs before : List ℕ} {r : ℕ} {p : Parsed} (room : 6240 ≤ length before) (P : Parses line p) where
-  pub replies : {ys after : List ℕ} (c : Command) → p ≡ Says.Is c → Obeys c xs before r ys after → InText (Replied line xs ys) xs before r ys after
+  pub replies : {ys after : List ℕ} (c : Command) → p ≡ Says.Is c → ObeysCommand c xs before r ys after → InText (Replied line xs ys) xs before r ys after
   replies c e O =
       let q = P .accepted c (ap parsedSaid e) in
       is-done (O .printed) room (obeyed c (q .1) (q .0) (O .obeyed)) (O .written)

@@ -9,7 +9,8 @@ use Rattle.line.specs.declared.Event.{Event}
 use Rattle.bench_command.specs.declared.Output.{Output}
 use Rattle.bench_command.specs.declared.Output.the-variants as Out
 use Rattle.bench_command.specs.Lines.{outputOf, entryLine}
-use Rattle.bench_printing.specs.Printing.{Prints, Appends}
+use Rattle.bench_printing.specs.Promises.{Prints}
+use Rattle.bench_printing.specs.Steps.{Appends}
 use Rattle.bench_printing.proofs.Appending.{nothing, then, read-as}
 use Rattle.bench_printing.proofs.Room.{line-most, appended}
 use Rattle.entry.specs.Entry.{eventAt}

@@ -46,10 +46,3 @@ pub record Obeyed (c : Command) (xs ys printed : List ℕ) : Type 0 where
 pub data Replied (line xs : List ℕ) : List ℕ → List ℕ → Type 0 where
   obeyed : {ys printed : List ℕ} (c : Command) → FitsAll c → line ≡ commandLine c → Obeyed c xs ys printed → Replied line xs ys printed
   unread : ((c : Command) → FitsAll c → line ≡ commandLine c → ⊥) → Replied line xs xs (outputOf (No 8))
-
--- ---- a step of reply
-
-pub record Obeys (c : Command) (xs before : List ℕ) (r : ℕ) (ys after : List ℕ) : Type 0 where
-  pub printed : List ℕ
-  pub obeyed : Obeyed c xs ys printed
-  pub written : Written printed before r after

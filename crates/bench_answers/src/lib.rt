@@ -10,7 +10,8 @@ ghost use Rattle.bench_command.specs.declared.Command.the-variants.{Commit as A
 ghost use Rattle.bench_command.specs.declared.Output.the-variants.{No, Commit};
 ghost use Rattle.bench_command.specs.Lines.{outputOf};
 ghost use Rattle.bench_answers.specs.Shown.{entryLines, linesOf};
-ghost use Rattle.bench_answers.specs.Promises.{Written, InText, Opening, Replied, Obeys};
+ghost use Rattle.bench_answers.specs.Promises.{Written, InText, Opening, Replied};
+ghost use Rattle.bench_answers.specs.Steps.{ObeysCommand};
 use bench_command::Command;
 use bench_command::Output;
 use bench_command::Parsed;
@@ -90,7 +91,7 @@ fn committed(text: &mut [u8], out: &[u8], count: u64) -> usize
 
 fn commit(b: &mut [u8], time: u64, text: &mut [u8]) -> usize
     requires { ⌜ 6240 ≤ length (now text) ⌝ }
-    ensures { λ r. ⌜ Obeys (AsksCommit time) (now (b .entry)) (now (text .entry)) r (now (b .exit)) (now (text .exit)) ⌝ }
+    ensures { λ r. ⌜ ObeysCommand (AsksCommit time) (now (b .entry)) (now (text .entry)) r (now (b .exit)) (now (text .exit)) ⌝ }
 {
     let mut out = [0u8; 1536];
     match engine::commit(b, time, &mut out) {
@@ -103,7 +104,7 @@ fn commit(b: &mut [u8], time: u64, text: &mut [u8]) -> usize
 
 fn obey(b: &mut [u8], c: Command, text: &mut [u8]) -> usize
     requires { ⌜ 6240 ≤ length (now text) ⌝ }
-    ensures { λ r. ⌜ Obeys c (now (b .entry)) (now (text .entry)) r (now (b .exit)) (now (text .exit)) ⌝ }
+    ensures { λ r. ⌜ ObeysCommand c (now (b .entry)) (now (text .entry)) r (now (b .exit)) (now (text .exit)) ⌝ }
 {
     match c {
         Command::Post {

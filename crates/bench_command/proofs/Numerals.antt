@@ -10,7 +10,7 @@ use lib.ListN.{length, getD, drop, drop-of-length-le}
 use lib.Seq.{drop-cons}
 use borrow.Author.Tests.{le-leb, leb-true, ltb-true, ltb-false}
 use Rattle.bench_command.specs.Decimal.{isDigit, Stops}
-use Rattle.bench_command.specs.Numeral.{count, total}
+use Rattle.bench_command.specs.Numeral.{digitCount, total}
 
 pub is-digit : (b : ℕ) → 48 ≤ b → b ≤ 57 → isDigit b ≡ true
 is-digit b l m = rw (le-leb 48 b l, le-leb b 57 m)
@@ -24,18 +24,18 @@ digit-is b e = let a = and-true (leb 48 b) (leb b 57) e in (leb-true 48 b (a .0)
 
 -- ---- at the front of a text
 
-pub count-digit : (b : ℕ) (bs : List ℕ) → isDigit b ≡ true → count (b ∷ bs) ≡ suc (count bs)
-unfolding count
-count-digit b bs e = ap (λ (t : Bool). cond t (suc (count bs)) 0) e
+pub count-digit : (b : ℕ) (bs : List ℕ) → isDigit b ≡ true → digitCount (b ∷ bs) ≡ suc (digitCount bs)
+unfolding digitCount
+count-digit b bs e = ap (λ (t : Bool). cond t (suc (digitCount bs)) 0) e
 
 pub total-digit : (v b : ℕ) (bs : List ℕ) → isDigit b ≡ true → total v (b ∷ bs) ≡ total (10 * v + (b - 48)) bs
 unfolding total
 total-digit v b bs e = ap (λ (t : Bool). cond t (total (10 * v + (b - 48)) bs) v) e
 
-pub count-stops : (bs : List ℕ) → Stops bs → count bs ≡ 0
-unfolding count
+pub count-stops : (bs : List ℕ) → Stops bs → digitCount bs ≡ 0
+unfolding digitCount
 count-stops [] s = refl
-count-stops (b ∷ bs) s = ap (λ (t : Bool). cond t (suc (count bs)) 0) s
+count-stops (b ∷ bs) s = ap (λ (t : Bool). cond t (suc (digitCount bs)) 0) s
 
 pub total-stops : (v : ℕ) (bs : List ℕ) → Stops bs → total v bs ≡ v
 unfolding total
@@ -43,21 +43,21 @@ total-stops v [] s = refl
 total-stops v (b ∷ bs) s = ap (λ (t : Bool). cond t (total (10 * v + (b - 48)) bs) v) s
 
 -- without digits, a text stops
-pub stops-count : (bs : List ℕ) → count bs ≡ 0 → Stops bs
-unfolding count
+pub stops-count : (bs : List ℕ) → digitCount bs ≡ 0 → Stops bs
+unfolding digitCount
 stops-count [] e = tt
 stops-count (b ∷ bs) e = go (isDigit b) e
   where
-    go : (t : Bool) → cond t (suc (count bs)) 0 ≡ 0 → t ≡ false
+    go : (t : Bool) → cond t (suc (digitCount bs)) 0 ≡ 0 → t ≡ false
     go true h = absurd (omega arith)
     go false h = refl
 
-pub count-within : (bs : List ℕ) → count bs ≤ length bs
-unfolding count
+pub count-within : (bs : List ℕ) → digitCount bs ≤ length bs
+unfolding digitCount
 count-within [] = omega arith
 count-within (b ∷ bs) = go (count-within bs) (isDigit b)
   where
-    go : count bs ≤ length bs → (t : Bool) → cond t (suc (count bs)) 0 ≤ suc (length bs)
+    go : digitCount bs ≤ length bs → (t : Bool) → cond t (suc (digitCount bs)) 0 ≤ suc (length bs)
     go i true = omega arith
     go i false = omega arith
 
@@ -78,23 +78,23 @@ pub record Digit (xs : List ℕ) (i : ℕ) : Type 0 where
   pub least : 48 ≤ getD xs i 0
   pub most : getD xs i 0 ≤ 57
 
-pub at-digit : (xs : List ℕ) (i : ℕ) → Digit xs i → count (drop i xs) ≡ suc (count (drop (i + 1) xs))
+pub at-digit : (xs : List ℕ) (i : ℕ) → Digit xs i → digitCount (drop i xs) ≡ suc (digitCount (drop (i + 1) xs))
 at-digit xs i d =
-    ap count (drop-cons xs i 0 (d .within)) ∙ count-digit _ _ (is-digit (getD xs i 0) (d .least) (d .most))
-    ∙ ap (λ (m : ℕ). suc (count (drop m xs))) (sym (add-one i))
+    ap digitCount (drop-cons xs i 0 (d .within)) ∙ count-digit _ _ (is-digit (getD xs i 0) (d .least) (d .most))
+    ∙ ap (λ (m : ℕ). suc (digitCount (drop m xs))) (sym (add-one i))
 
 pub sum-digit : (xs : List ℕ) (i v : ℕ) → Digit xs i → total v (drop i xs) ≡ total (10 * v + (getD xs i 0 - 48)) (drop (i + 1) xs)
 sum-digit xs i v d =
     ap (total v) (drop-cons xs i 0 (d .within)) ∙ total-digit v _ _ (is-digit (getD xs i 0) (d .least) (d .most))
     ∙ ap (λ (m : ℕ). total (10 * v + (getD xs i 0 - 48)) (drop m xs)) (sym (add-one i))
 
-pub at-other : (xs : List ℕ) (i : ℕ) → i < length xs → isDigit (getD xs i 0) ≡ false → count (drop i xs) ≡ 0
-at-other xs i l e = ap count (drop-cons xs i 0 l) ∙ count-stops (getD xs i 0 ∷ drop (suc i) xs) e
+pub at-other : (xs : List ℕ) (i : ℕ) → i < length xs → isDigit (getD xs i 0) ≡ false → digitCount (drop i xs) ≡ 0
+at-other xs i l e = ap digitCount (drop-cons xs i 0 l) ∙ count-stops (getD xs i 0 ∷ drop (suc i) xs) e
 
-pub at-end : (xs : List ℕ) (i : ℕ) → length xs ≤ i → count (drop i xs) ≡ 0
-at-end xs i l = ap count (drop-of-length-le xs l) ∙ count-stops [] tt
+pub at-end : (xs : List ℕ) (i : ℕ) → length xs ≤ i → digitCount (drop i xs) ≡ 0
+at-end xs i l = ap digitCount (drop-of-length-le xs l) ∙ count-stops [] tt
 
-pub digit-at : (xs : List ℕ) (i : ℕ) → 0 < count (drop i xs) → Digit xs i
+pub digit-at : (xs : List ℕ) (i : ℕ) → 0 < digitCount (drop i xs) → Digit xs i
 digit-at xs i h = by-length (ltb i (length xs)) refl
   where
     by-test : i < length xs → (t : Bool) → isDigit (getD xs i 0) ≡ t → Digit xs i

@@ -9,7 +9,7 @@ use lib.ListN.{length, getD, drop, length-append}
 use lib.Seq.{drop-nil}
 use borrow.Author.Tests.{eqb-true, eqb-false}
 use Rattle.bench_command.specs.Decimal.{decimal, Fits, isDigit, Stops}
-use Rattle.bench_command.specs.Numeral.{count, total}
+use Rattle.bench_command.specs.Numeral.{digitCount, total}
 use Rattle.bench_command.proofs.Tenths.{decimal-one, decimal-more, by-tenths}
 use Rattle.bench_command.proofs.Numerals.{is-digit, digit-is, count-digit, total-digit, count-stops, total-stops, stops-count, total-least}
 
@@ -28,19 +28,19 @@ length-one v h = ap length (decimal-one v h)
 pub length-some : (v : ℕ) → Fits v → 0 < length (decimal v)
 length-some = by-tenths (λ v. Fits v → 0 < length (decimal v)) (λ v h f. omega (arith, length-one v h)) (λ v h i f. omega (arith, length-more v f h))
 
-pub count-decimal : (v : ℕ) → Fits v → (rest : List ℕ) → count (decimal v ++ rest) ≡ length (decimal v) + count rest
-count-decimal = by-tenths (λ v. Fits v → (rest : List ℕ) → count (decimal v ++ rest) ≡ length (decimal v) + count rest) one more
+pub count-decimal : (v : ℕ) → Fits v → (rest : List ℕ) → digitCount (decimal v ++ rest) ≡ length (decimal v) + digitCount rest
+count-decimal = by-tenths (λ v. Fits v → (rest : List ℕ) → digitCount (decimal v ++ rest) ≡ length (decimal v) + digitCount rest) one more
   where
-    one : (v : ℕ) → v < 10 → Fits v → (rest : List ℕ) → count (decimal v ++ rest) ≡ length (decimal v) + count rest
+    one : (v : ℕ) → v < 10 → Fits v → (rest : List ℕ) → digitCount (decimal v ++ rest) ≡ length (decimal v) + digitCount rest
     one v h f rest =
-        let e = ap (λ (ds : List ℕ). count (ds ++ rest)) (decimal-one v h) ∙ count-digit (48 + v) rest (is-digit (48 + v) (omega arith) (omega arith)) in
+        let e = ap (λ (ds : List ℕ). digitCount (ds ++ rest)) (decimal-one v h) ∙ count-digit (48 + v) rest (is-digit (48 + v) (omega arith) (omega arith)) in
         omega (arith, e, length-one v h)
 
-    more : (v : ℕ) → 10 ≤ v → (Fits (v / 10) → (rest : List ℕ) → count (decimal (v / 10) ++ rest) ≡ length (decimal (v / 10)) + count rest)
-        → Fits v → (rest : List ℕ) → count (decimal v ++ rest) ≡ length (decimal v) + count rest
+    more : (v : ℕ) → 10 ≤ v → (Fits (v / 10) → (rest : List ℕ) → digitCount (decimal (v / 10) ++ rest) ≡ length (decimal (v / 10)) + digitCount rest)
+        → Fits v → (rest : List ℕ) → digitCount (decimal v ++ rest) ≡ length (decimal v) + digitCount rest
     more v h i f rest =
         let d = 48 + v % 10 in
-        let e = ap count (front v rest f h) ∙ i (omega arith) (d ∷ rest) in
+        let e = ap digitCount (front v rest f h) ∙ i (omega arith) (d ∷ rest) in
         let g = count-digit d rest (is-digit d (omega arith) (omega arith)) in
         omega (arith, e, g, length-more v f h)
 
@@ -89,13 +89,13 @@ extends v d p h f =
     ∙ ap (λ (n : ℕ). decimal v ++ ((48 + n) ∷ [])) r
 
 -- the digits that are read after a number that is no zero
-after : (v : ℕ) (bs : List ℕ) → 0 < v → Fits (total v bs) → decimal v ++ bs ≡ decimal (total v bs) ++ drop (count bs) bs
+after : (v : ℕ) (bs : List ℕ) → 0 < v → Fits (total v bs) → decimal v ++ bs ≡ decimal (total v bs) ++ drop (digitCount bs) bs
 after v [] p f =
-    ap (λ (n : ℕ). decimal n ++ []) (sym (total-stops v [] tt)) ∙ ap (λ (ds : List ℕ). decimal (total v []) ++ ds) (sym (drop-nil (count [])))
+    ap (λ (n : ℕ). decimal n ++ []) (sym (total-stops v [] tt)) ∙ ap (λ (ds : List ℕ). decimal (total v []) ++ ds) (sym (drop-nil (digitCount [])))
 after v (b ∷ bs) p f = go (isDigit b) refl (λ w. after w bs)
   where
-    go : (t : Bool) → isDigit b ≡ t → ((w : ℕ) → 0 < w → Fits (total w bs) → decimal w ++ bs ≡ decimal (total w bs) ++ drop (count bs) bs)
-        → decimal v ++ (b ∷ bs) ≡ decimal (total v (b ∷ bs)) ++ drop (count (b ∷ bs)) (b ∷ bs)
+    go : (t : Bool) → isDigit b ≡ t → ((w : ℕ) → 0 < w → Fits (total w bs) → decimal w ++ bs ≡ decimal (total w bs) ++ drop (digitCount bs) bs)
+        → decimal v ++ (b ∷ bs) ≡ decimal (total v (b ∷ bs)) ++ drop (digitCount (b ∷ bs)) (b ∷ bs)
     go true e i =
         let d = digit-is b e in
         let w = 10 * v + (b - 48) in
@@ -105,19 +105,19 @@ after v (b ∷ bs) p f = go (isDigit b) refl (λ w. after w bs)
         let z : 48 + (b - 48) ≡ b = omega arith in
         sym (append-assoc (decimal v) (b ∷ []) bs) ∙ ap (λ (n : ℕ). decimal v ++ (n ∷ []) ++ bs) (sym z) ∙ ap (λ (ds : List ℕ). ds ++ bs) (sym x)
         ∙ i w (omega arith) fits
-        ∙ ap (λ (n : ℕ). decimal n ++ drop (count bs) bs) (sym t)
+        ∙ ap (λ (n : ℕ). decimal n ++ drop (digitCount bs) bs) (sym t)
         ∙ ap (λ (n : ℕ). decimal (total v (b ∷ bs)) ++ drop n (b ∷ bs)) (sym (count-digit b bs e))
     go false e i =
         ap (λ (n : ℕ). decimal n ++ (b ∷ bs)) (sym (total-stops v (b ∷ bs) e))
         ∙ ap (λ (n : ℕ). decimal (total v (b ∷ bs)) ++ drop n (b ∷ bs)) (sym (count-stops (b ∷ bs) e))
 
 -- digits without a leading zero
-pub says : (bs : List ℕ) → 0 < count bs → (getD bs 0 0 ≡ 48 → count bs ≤ 1) → Fits (total 0 bs)
-    → bs ≡ decimal (total 0 bs) ++ drop (count bs) bs
+pub says : (bs : List ℕ) → 0 < digitCount bs → (getD bs 0 0 ≡ 48 → digitCount bs ≤ 1) → Fits (total 0 bs)
+    → bs ≡ decimal (total 0 bs) ++ drop (digitCount bs) bs
 says [] p z f = absurd (omega (arith, count-stops [] tt))
 says (b ∷ bs) p z f = go (isDigit b) refl
   where
-    go : (t : Bool) → isDigit b ≡ t → b ∷ bs ≡ decimal (total 0 (b ∷ bs)) ++ drop (count (b ∷ bs)) (b ∷ bs)
+    go : (t : Bool) → isDigit b ≡ t → b ∷ bs ≡ decimal (total 0 (b ∷ bs)) ++ drop (digitCount (b ∷ bs)) (b ∷ bs)
     go false e = absurd (omega (arith, count-stops (b ∷ bs) e))
     go true e = by-zero (eqb b 48) refl
       where
@@ -127,11 +127,11 @@ says (b ∷ bs) p z f = go (isDigit b) refl
         t : total 0 (b ∷ bs) ≡ total (b - 48) bs
         t = total-digit 0 b bs e ∙ ap (λ (n : ℕ). total n bs) (omega arith)
 
-        n : count (b ∷ bs) ≡ suc (count bs)
+        n : digitCount (b ∷ bs) ≡ suc (digitCount bs)
         n = count-digit b bs e
 
-        back : b ∷ bs ≡ decimal (total (b - 48) bs) ++ drop (count bs) bs → b ∷ bs ≡ decimal (total 0 (b ∷ bs)) ++ drop (count (b ∷ bs)) (b ∷ bs)
-        back h = h ∙ ap (λ (m : ℕ). decimal m ++ drop (count bs) bs) (sym t) ∙ ap (λ (m : ℕ). decimal (total 0 (b ∷ bs)) ++ drop m (b ∷ bs)) (sym n)
+        back : b ∷ bs ≡ decimal (total (b - 48) bs) ++ drop (digitCount bs) bs → b ∷ bs ≡ decimal (total 0 (b ∷ bs)) ++ drop (digitCount (b ∷ bs)) (b ∷ bs)
+        back h = h ∙ ap (λ (m : ℕ). decimal m ++ drop (digitCount bs) bs) (sym t) ∙ ap (λ (m : ℕ). decimal (total 0 (b ∷ bs)) ++ drop m (b ∷ bs)) (sym n)
 
         single : b ∷ bs ≡ decimal (b - 48) ++ bs
         single =
@@ -139,9 +139,9 @@ says (b ∷ bs) p z f = go (isDigit b) refl
             let y : b ≡ 48 + (b - 48) = omega (arith, d) in
             ap (λ (m : ℕ). m ∷ bs) y ∙ ap (λ (ds : List ℕ). ds ++ bs) (sym x)
 
-        by-zero : (u : Bool) → eqb b 48 ≡ u → b ∷ bs ≡ decimal (total 0 (b ∷ bs)) ++ drop (count (b ∷ bs)) (b ∷ bs)
+        by-zero : (u : Bool) → eqb b 48 ≡ u → b ∷ bs ≡ decimal (total 0 (b ∷ bs)) ++ drop (digitCount (b ∷ bs)) (b ∷ bs)
         by-zero true u =
-            let none : count bs ≡ 0 = omega (arith, z (eqb-true b 48 u), n) in
+            let none : digitCount bs ≡ 0 = omega (arith, z (eqb-true b 48 u), n) in
             back (single ∙ ap (λ (m : ℕ). decimal m ++ bs) (sym (total-stops (b - 48) bs (stops-count bs none)))
             ∙ ap (λ (m : ℕ). decimal (total (b - 48) bs) ++ drop m bs) (sym none))
         by-zero false u = back (single ∙ after (b - 48) bs (let ne = eqb-false b 48 u in omega (arith, d, ne)) (omega (arith, t, f)))

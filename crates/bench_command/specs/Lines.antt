@@ -13,20 +13,20 @@ use Rattle.bench_command.specs.declared.Output.the-variants as Out
 use Rattle.bench_command.specs.Decimal.{decimal, Fits}
 
 -- the words, in ASCII
-abbrev pub post : List ℕ
-post = 112 ∷ 111 ∷ 115 ∷ 116 ∷ []
+abbrev pub postWord : List ℕ
+postWord = 112 ∷ 111 ∷ 115 ∷ 116 ∷ []
 
-abbrev pub retract : List ℕ
-retract = 114 ∷ 101 ∷ 116 ∷ 114 ∷ 97 ∷ 99 ∷ 116 ∷ []
+abbrev pub retractWord : List ℕ
+retractWord = 114 ∷ 101 ∷ 116 ∷ 114 ∷ 97 ∷ 99 ∷ 116 ∷ []
 
-abbrev pub run : List ℕ
-run = 114 ∷ 117 ∷ 110 ∷ []
+abbrev pub runWord : List ℕ
+runWord = 114 ∷ 117 ∷ 110 ∷ []
 
-abbrev pub commit : List ℕ
-commit = 99 ∷ 111 ∷ 109 ∷ 109 ∷ 105 ∷ 116 ∷ []
+abbrev pub commitWord : List ℕ
+commitWord = 99 ∷ 111 ∷ 109 ∷ 109 ∷ 105 ∷ 116 ∷ []
 
-abbrev pub no : List ℕ
-no = 110 ∷ 111 ∷ []
+abbrev pub noWord : List ℕ
+noWord = 110 ∷ 111 ∷ []
 
 -- numbers after a word, each after one space
 unfoldable pub spaced : List ℕ → List ℕ → List ℕ
@@ -35,11 +35,11 @@ spaced word (n ∷ ns) = spaced (word ++ (32 ∷ decimal n)) ns
 
 -- "post STATION TIME KIND VALUE", "retract NUMBER", "run", "run STATION", "commit TIME"
 unfoldable pub commandLine : Command → List ℕ
-commandLine (Post station time kind value) = spaced post (station ∷ time ∷ kind ∷ value ∷ [])
-commandLine (Retract number) = spaced retract (number ∷ [])
-commandLine Run = run
-commandLine (RunStation station) = spaced run (station ∷ [])
-commandLine (Commit time) = spaced commit (time ∷ [])
+commandLine (Post station time kind value) = spaced postWord (station ∷ time ∷ kind ∷ value ∷ [])
+commandLine (Retract number) = spaced retractWord (number ∷ [])
+commandLine Run = runWord
+commandLine (RunStation station) = spaced runWord (station ∷ [])
+commandLine (Commit time) = spaced commitWord (time ∷ [])
 
 -- "as is one over 64 bits"
 abbrev pub FitsAll : Command → Type 0
@@ -60,11 +60,11 @@ parsedSaid (Refused e) = Refuses (numberOf e)
 
 -- "post: number, undone; run: station, undone; retract: undone; commit: .. its count"; "A refusal prints "no NUMBER""; each a line
 unfoldable pub outputOf : Output → List ℕ
-outputOf (Out.Post number undone) = spaced post (number ∷ undone ∷ []) ++ 10 ∷ []
-outputOf (Out.Retract undone) = spaced retract (undone ∷ []) ++ 10 ∷ []
-outputOf (Out.Run station undone) = spaced run (station ∷ undone ∷ []) ++ 10 ∷ []
-outputOf (Out.Commit count) = spaced commit (count ∷ []) ++ 10 ∷ []
-outputOf (Out.No number) = spaced no (number ∷ []) ++ 10 ∷ []
+outputOf (Out.Post number undone) = spaced postWord (number ∷ undone ∷ []) ++ 10 ∷ []
+outputOf (Out.Retract undone) = spaced retractWord (undone ∷ []) ++ 10 ∷ []
+outputOf (Out.Run station undone) = spaced runWord (station ∷ undone ∷ []) ++ 10 ∷ []
+outputOf (Out.Commit count) = spaced commitWord (count ∷ []) ++ 10 ∷ []
+outputOf (Out.No number) = spaced noWord (number ∷ []) ++ 10 ∷ []
 
 -- "a line for each event with time, target, kind, source, number, value"
 unfoldable pub entryLine : Event → List ℕ

@@ -4,9 +4,9 @@ use mathlib.Core.List.{List, [], _∷_}
 use Prim.Native.Nat.{ℕ, suc, _+_, _-_, _*_}
 use Rattle.bench_command.specs.Decimal.{isDigit}
 
-unfoldable pub count : List ℕ → ℕ
-count [] = 0
-count (b ∷ bs) = cond (isDigit b) (suc (count bs)) 0
+unfoldable pub digitCount : List ℕ → ℕ
+digitCount [] = 0
+digitCount (b ∷ bs) = cond (isDigit b) (suc (digitCount bs)) 0
 
 -- read after v
 unfoldable pub total : ℕ → List ℕ → ℕ

@@ -9,7 +9,8 @@ use lib.ListN.{length, getD, set, take, length-append, length-set, length-take}
 use lib.Seq.{length-take-le, take-all, take-nil, take-append-le, take-suc-set}
 use Rattle.bench_command.proofs.Prefixes.{next-byte}
 use Rattle.bench_answers.specs.Promises.{Replied}
-use Rattle.bench_console.specs.Input.{Fed, start, inside, ends, Ended, whole, last, Printed, Unended, Console, More, Last, ReadOn, Within, AnswersAll}
+use Rattle.bench_console.specs.Input.{Fed, unfed, inside, ends, Ended, whole, last}
+use Rattle.bench_console.specs.Steps.{Printed, Unended, Console, More, Last, ReadOn, Within, AnswersAll}
 use Rattle.bench_console.specs.declared.Read.{Read}
 use Rattle.bench_console.specs.declared.Read.the-variants.{Some, End}
 use Rattle.bench_console.proofs.Lengths.{by-front}
@@ -129,7 +130,7 @@ ends-last {xs} {input} {line} {len} {ys} {zs} room h P C =
 -- ---- one read after the other
 
 pub nothing-read : (xs line : List ℕ) → More xs [] line 0 xs
-nothing-read xs line = record { read = []; console = record { rest = []; printed = []; fed = start; unended = unended-none line } }
+nothing-read xs line = record { read = []; console = record { rest = []; printed = []; fed = unfed; unended = unended-none line } }
 
 module _ {xs line : List ℕ} {len : ℕ} {ys : List ℕ} (line' zs : List ℕ) (r : Read) (M : More xs [] line len ys)
     (on : (us input : List ℕ) → Console us input line len ys → ReadOn us input line' r zs)

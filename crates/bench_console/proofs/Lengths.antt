@@ -10,7 +10,7 @@ use lib.Seq.{length-take-le, take-all}
 use Rattle.bench_command.specs.declared.Command.{Command}
 use Rattle.bench_command.specs.declared.Command.the-variants.{Post, Retract, Run, RunStation, Commit}
 use Rattle.bench_command.specs.Decimal.{decimal}
-use Rattle.bench_command.specs.Lines.{post, retract, run, commit, spaced, commandLine}
+use Rattle.bench_command.specs.Lines.{postWord, retractWord, runWord, commitWord, spaced, commandLine}
 use Rattle.bench_printing.proofs.Backward.{at-most-20}
 use Rattle.bench_answers.specs.Promises.{Replied, obeyed, unread}
 
@@ -22,11 +22,11 @@ spaced-most word (n ∷ ns) =
 
 pub command-most : (c : Command) → length (commandLine c) ≤ 88
 unfolding commandLine
-command-most (Post station time kind value) = omega (arith, spaced-most post (station ∷ time ∷ kind ∷ value ∷ []))
-command-most (Retract number) = omega (arith, spaced-most retract (number ∷ []))
+command-most (Post station time kind value) = omega (arith, spaced-most postWord (station ∷ time ∷ kind ∷ value ∷ []))
+command-most (Retract number) = omega (arith, spaced-most retractWord (number ∷ []))
 command-most Run = omega arith
-command-most (RunStation station) = omega (arith, spaced-most run (station ∷ []))
-command-most (Commit time) = omega (arith, spaced-most commit (time ∷ []))
+command-most (RunStation station) = omega (arith, spaced-most runWord (station ∷ []))
+command-most (Commit time) = omega (arith, spaced-most commitWord (time ∷ []))
 
 long-line : {front rest xs ys printed : List ℕ} → 88 < length front → 88 < length rest → Replied front xs ys printed → Replied rest xs ys printed
 long-line f r (obeyed c g e O) = absurd (omega (arith, f, ap length e, command-most c))

@@ -4,7 +4,7 @@ ghost use mathlib.Core.List.{List, [], _∷_, _++_};
 ghost use Prim.Native.Nat.{ℕ, _≤_};
 ghost use lib.ListN.{length, take as List·take};
 ghost use Rattle.io.specs.Counts.{Counts};
-ghost use Rattle.bench_console.specs.Input.{Printed, Console, ReadOn, Within, AnswersAll};
+ghost use Rattle.bench_console.specs.Steps.{Printed, Console, ReadOn, Within, AnswersAll};
 use libc::STDOUT_FILENO;
 
 // The first n bytes of a text are written to the standard output. This is the one place that writes. The kit's contracts say nothing of what reaches a

@@ -10,8 +10,8 @@ use Rattle.bench_command.specs.declared.Command.{Command}
 use Rattle.bench_command.specs.declared.Command.the-variants.{Post, Retract, Run, RunStation, Commit}
 use Rattle.bench_command.specs.declared.Parsed.the-variants.{Is, Refused}
 use Rattle.bench_command.specs.Decimal.{decimal, Fits}
-use Rattle.bench_command.specs.Lines.{post, retract, run, commit, spaced, commandLine, FitsAll, Asks}
-use Rattle.bench_parsing.specs.Parsing.{Parses}
+use Rattle.bench_command.specs.Lines.{postWord, retractWord, runWord, commitWord, spaced, commandLine, FitsAll, Asks}
+use Rattle.bench_parsing.specs.Promises.{Parses}
 use Rattle.bench_parsing.proofs.Forms.{post-line, secondOf, fourthOf, second, fourth}
 use Rattle.bench_parsing.proofs.Inverse.{one-line}
 
@@ -34,7 +34,7 @@ refuses xs h =
 -- ---- by the word
 
 module _ (xs : List ℕ) where
-  pub refuses-post : xs ≡ post ++ drop 4 xs → ((s t k v : ℕ) → Fits s × Fits t × Fits k × Fits v
+  pub refuses-post : xs ≡ postWord ++ drop 4 xs → ((s t k v : ℕ) → Fits s × Fits t × Fits k × Fits v
       → drop 4 xs ≡ 32 ∷ (decimal s ++ (32 ∷ (decimal t ++ (32 ∷ (decimal k ++ (32 ∷ decimal v)))))) → ⊥) → Parses xs (Refused R.Command)
   refuses-post w h = refuses xs (λ c f e. no c f e (sym (ap (λ (l : List ℕ). getD l 3 0) w) ∙ ap (λ (l : List ℕ). getD l 3 0) e ∙ fourth c))
     where
@@ -45,7 +45,7 @@ module _ (xs : List ℕ) where
       no (RunStation n) f e z = omega arith
       no (Commit n) f e z = omega arith
 
-  pub refuses-retract : xs ≡ retract ++ drop 7 xs → ((n : ℕ) → Fits n → drop 7 xs ≡ 32 ∷ decimal n → ⊥) → Parses xs (Refused R.Command)
+  pub refuses-retract : xs ≡ retractWord ++ drop 7 xs → ((n : ℕ) → Fits n → drop 7 xs ≡ 32 ∷ decimal n → ⊥) → Parses xs (Refused R.Command)
   unfolding commandLine spaced
   refuses-retract w h = refuses xs (λ c f e. no c f e (sym (ap (λ (l : List ℕ). getD l 3 0) w) ∙ ap (λ (l : List ℕ). getD l 3 0) e ∙ fourth c))
     where
@@ -56,7 +56,7 @@ module _ (xs : List ℕ) where
       no (RunStation n) f e z = omega arith
       no (Commit n) f e z = omega arith
 
-  pub refuses-run : xs ≡ run ++ drop 3 xs → (length xs ≡ 3 → ⊥) → ((n : ℕ) → Fits n → drop 3 xs ≡ 32 ∷ decimal n → ⊥) → Parses xs (Refused R.Command)
+  pub refuses-run : xs ≡ runWord ++ drop 3 xs → (length xs ≡ 3 → ⊥) → ((n : ℕ) → Fits n → drop 3 xs ≡ 32 ∷ decimal n → ⊥) → Parses xs (Refused R.Command)
   unfolding commandLine spaced
   refuses-run w l h = refuses xs (λ c f e. no c f e (sym (ap (λ (l : List ℕ). getD l 1 0) w) ∙ ap (λ (l : List ℕ). getD l 1 0) e ∙ second c))
     where
@@ -67,7 +67,7 @@ module _ (xs : List ℕ) where
       no (RunStation n) f e z = h n f (ap (drop 3) e)
       no (Commit n) f e z = omega arith
 
-  pub refuses-commit : xs ≡ commit ++ drop 6 xs → ((n : ℕ) → Fits n → drop 6 xs ≡ 32 ∷ decimal n → ⊥) → Parses xs (Refused R.Command)
+  pub refuses-commit : xs ≡ commitWord ++ drop 6 xs → ((n : ℕ) → Fits n → drop 6 xs ≡ 32 ∷ decimal n → ⊥) → Parses xs (Refused R.Command)
   unfolding commandLine spaced
   refuses-commit w h = refuses xs (λ c f e. no c f e (sym (ap (λ (l : List ℕ). getD l 3 0) w) ∙ ap (λ (l : List ℕ). getD l 3 0) e ∙ fourth c))
     where
@@ -79,8 +79,8 @@ module _ (xs : List ℕ) where
       no (Commit n) f e z = h n f (ap (drop 6) e)
 
   -- none of the words
-  pub refuses-words : ((rest : List ℕ) → xs ≡ post ++ rest → ⊥) → ((rest : List ℕ) → xs ≡ retract ++ rest → ⊥)
-      → ((rest : List ℕ) → xs ≡ run ++ rest → ⊥) → ((rest : List ℕ) → xs ≡ commit ++ rest → ⊥) → Parses xs (Refused R.Command)
+  pub refuses-words : ((rest : List ℕ) → xs ≡ postWord ++ rest → ⊥) → ((rest : List ℕ) → xs ≡ retractWord ++ rest → ⊥)
+      → ((rest : List ℕ) → xs ≡ runWord ++ rest → ⊥) → ((rest : List ℕ) → xs ≡ commitWord ++ rest → ⊥) → Parses xs (Refused R.Command)
   unfolding commandLine spaced
   refuses-words p r u c = refuses xs no
     where
@@ -91,18 +91,18 @@ module _ (xs : List ℕ) where
       no (RunStation n) f e = u (32 ∷ decimal n) e
       no (Commit n) f e = c (32 ∷ decimal n) e
 
-  pub takes-retract : xs ≡ retract ++ drop 7 xs → (n : ℕ) → Fits n → drop 7 xs ≡ 32 ∷ decimal n → Parses xs (Is (Retract n))
+  pub takes-retract : xs ≡ retractWord ++ drop 7 xs → (n : ℕ) → Fits n → drop 7 xs ≡ 32 ∷ decimal n → Parses xs (Is (Retract n))
   unfolding commandLine spaced
-  takes-retract w n f e = takes xs (Retract n) f (w ∙ ap (λ (l : List ℕ). retract ++ l) e)
+  takes-retract w n f e = takes xs (Retract n) f (w ∙ ap (λ (l : List ℕ). retractWord ++ l) e)
 
-  pub takes-run : xs ≡ run ++ drop 3 xs → length xs ≡ 3 → Parses xs (Is Run)
+  pub takes-run : xs ≡ runWord ++ drop 3 xs → length xs ≡ 3 → Parses xs (Is Run)
   unfolding commandLine
-  takes-run w l = takes xs Run tt (w ∙ ap (λ (l : List ℕ). run ++ l) (ap (λ (n : ℕ). drop n xs) (sym l) ∙ drop-length xs))
+  takes-run w l = takes xs Run tt (w ∙ ap (λ (l : List ℕ). runWord ++ l) (ap (λ (n : ℕ). drop n xs) (sym l) ∙ drop-length xs))
 
-  pub takes-station : xs ≡ run ++ drop 3 xs → (n : ℕ) → Fits n → drop 3 xs ≡ 32 ∷ decimal n → Parses xs (Is (RunStation n))
+  pub takes-station : xs ≡ runWord ++ drop 3 xs → (n : ℕ) → Fits n → drop 3 xs ≡ 32 ∷ decimal n → Parses xs (Is (RunStation n))
   unfolding commandLine spaced
-  takes-station w n f e = takes xs (RunStation n) f (w ∙ ap (λ (l : List ℕ). run ++ l) e)
+  takes-station w n f e = takes xs (RunStation n) f (w ∙ ap (λ (l : List ℕ). runWord ++ l) e)
 
-  pub takes-commit : xs ≡ commit ++ drop 6 xs → (n : ℕ) → Fits n → drop 6 xs ≡ 32 ∷ decimal n → Parses xs (Is (Commit n))
+  pub takes-commit : xs ≡ commitWord ++ drop 6 xs → (n : ℕ) → Fits n → drop 6 xs ≡ 32 ∷ decimal n → Parses xs (Is (Commit n))
   unfolding commandLine spaced
-  takes-commit w n f e = takes xs (Commit n) f (w ∙ ap (λ (l : List ℕ). commit ++ l) e)
+  takes-commit w n f e = takes xs (Commit n) f (w ∙ ap (λ (l : List ℕ). commitWord ++ l) e)

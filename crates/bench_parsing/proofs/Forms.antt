@@ -7,14 +7,14 @@ use lib.ListN.{getD, drop}
 use Rattle.bench_command.specs.declared.Command.{Command}
 use Rattle.bench_command.specs.declared.Command.the-variants.{Post, Retract, Run, RunStation, Commit}
 use Rattle.bench_command.specs.Decimal.{decimal, Fits}
-use Rattle.bench_command.specs.Lines.{post, spaced, commandLine, FitsAll}
+use Rattle.bench_command.specs.Lines.{postWord, spaced, commandLine, FitsAll}
 use Rattle.bench_command.proofs.Reading.{split}
 
 pub decimal-injective : (v w : ℕ) → Fits v → Fits w → decimal v ≡ decimal w → v ≡ w
 decimal-injective v w f g e = split v w [] [] f g tt tt (ap (λ (l : List ℕ). l ++ []) e) .0
 
 -- each space and each number, one after the other
-pub post-line : (s t k v : ℕ) → commandLine (Post s t k v) ≡ post ++ (32 ∷ (decimal s ++ (32 ∷ (decimal t ++ (32 ∷ (decimal k ++ (32 ∷ decimal v)))))))
+pub post-line : (s t k v : ℕ) → commandLine (Post s t k v) ≡ postWord ++ (32 ∷ (decimal s ++ (32 ∷ (decimal t ++ (32 ∷ (decimal k ++ (32 ∷ decimal v)))))))
 unfolding commandLine spaced
 post-line s t k v = simp append-assoc
 

@@ -12,9 +12,8 @@ use borrow.Author.Tests.{eqb-true, eqb-false}
 use Rattle.bench_parsing.specs.declared.Number.{Number}
 use Rattle.bench_parsing.specs.declared.Number.the-variants.{Value, Absent}
 use Rattle.bench_command.specs.Decimal.{decimal, Fits, Stops}
-use Rattle.bench_command.specs.Numeral.{count, total}
-use Rattle.bench_parsing.specs.Parsing.{Numbers}
-use Rattle.bench_parsing.specs.Steps.{Lasts}
+use Rattle.bench_command.specs.Numeral.{digitCount, total}
+use Rattle.bench_parsing.specs.Steps.{Numbers, Lasts}
 use Rattle.bench_command.proofs.Numerals.{count-stops, total-stops, count-within}
 use Rattle.bench_command.proofs.Reading.{length-one, length-some, count-decimal, total-decimal, lead-decimal, says}
 
@@ -28,10 +27,10 @@ none lead xs at h =
 
 -- ---- at a place
 
-module _ (xs : List ℕ) (at n : ℕ) (counted : n ≡ count (drop at xs)) where
+module _ (xs : List ℕ) (at n : ℕ) (counted : n ≡ digitCount (drop at xs)) where
   -- a number that stands there has all the digits there, and their total
   long : (v : ℕ) (rest : List ℕ) → Fits v → drop at xs ≡ decimal v ++ rest → Stops rest → n ≡ length (decimal v)
-  long v rest f e s = omega (arith, counted, ap count e, count-decimal v f rest, count-stops rest s)
+  long v rest f e s = omega (arith, counted, ap digitCount e, count-decimal v f rest, count-stops rest s)
 
   worth : (v : ℕ) (rest : List ℕ) → Fits v → drop at xs ≡ decimal v ++ rest → Stops rest → total 0 (drop at xs) ≡ v
   worth v rest f e s = ap (total 0) e ∙ total-decimal v f rest ∙ total-stops v rest s
@@ -63,7 +62,7 @@ module _ (xs : List ℕ) (at n : ℕ) (counted : n ≡ count (drop at xs)) where
       text =
           says (drop at xs) (omega (arith, p, counted))
           (λ h. let g = z (ap (λ (i : ℕ). getD xs i 0) (omega arith) ∙ sym (getD-drop at xs 0 0) ∙ h) in omega (arith, g, counted)) (omega (arith, e, l))
-          ∙ ap (λ (m : ℕ). decimal m ++ drop (count (drop at xs)) (drop at xs)) (sym e)
+          ∙ ap (λ (m : ℕ). decimal m ++ drop (digitCount (drop at xs)) (drop at xs)) (sym e)
           ∙ ap (λ (m : ℕ). decimal v ++ drop m (drop at xs)) (sym counted)
           ∙ ap (λ (l : List ℕ). decimal v ++ l) (drop-drop n at xs)
 

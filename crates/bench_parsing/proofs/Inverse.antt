@@ -8,7 +8,7 @@ use Rattle.bench_command.specs.declared.Parsed.{Parsed}
 use Rattle.bench_command.specs.declared.Parsed.the-variants.{Is}
 use Rattle.bench_command.specs.Decimal.{decimal, Fits}
 use Rattle.bench_command.specs.Lines.{commandLine, FitsAll, Asks, parsedSaid}
-use Rattle.bench_parsing.specs.Parsing.{Parses}
+use Rattle.bench_parsing.specs.Promises.{Parses}
 use Rattle.bench_parsing.proofs.Forms.{decimal-injective, fourth, same}
 
 -- a command's line is read as that command

@@ -11,8 +11,9 @@ use Rattle.bench_command.specs.declared.Parsed.the-variants.{Is, Refused}
 use Rattle.bench_parsing.specs.declared.Number.{Number}
 use Rattle.bench_parsing.specs.declared.Number.the-variants.{Value, Absent}
 use Rattle.bench_command.specs.Decimal.{decimal, Fits, Stops}
-use Rattle.bench_command.specs.Lines.{post}
-use Rattle.bench_parsing.specs.Parsing.{Parses, Numbers}
+use Rattle.bench_command.specs.Lines.{postWord}
+use Rattle.bench_parsing.specs.Promises.{Parses}
+use Rattle.bench_parsing.specs.Steps.{Numbers}
 use Rattle.bench_parsing.proofs.Forms.{post-line}
 use Rattle.bench_parsing.proofs.Accepting.{takes, refuses-post}
 
@@ -28,7 +29,7 @@ module _ (xs : List ℕ) {at : ℕ} {r : Number} (n : Numbers (32 ∷ []) xs at 
       let text : 32 ∷ (decimal w ++ drop next xs) ≡ 32 ∷ (decimal v ++ rest) = sym (n .found w next a .1) ∙ e in
       append-cancel-left (decimal v) (drop next xs) rest (ap (λ (m : ℕ). decimal m ++ drop next xs) (sym same) ∙ ap (drop 1) text)
 
-module _ (xs : List ℕ) (w : xs ≡ post ++ drop 4 xs) (r₁ : Number) (n₁ : Numbers (32 ∷ []) xs 4 r₁) where
+module _ (xs : List ℕ) (w : xs ≡ postWord ++ drop 4 xs) (r₁ : Number) (n₁ : Numbers (32 ∷ []) xs 4 r₁) where
   pub no-station : r₁ ≡ Absent → Parses xs (Refused R.Command)
   no-station e = refuses-post xs w (λ s t k v f q. fails xs n₁ e _ _ (f .0) q refl)
 

@@ -1,2 +1,2 @@
-pub mod Parsing
+pub mod Promises
 pub mod Steps

@@ -3,10 +3,10 @@
 ghost use mathlib.Core.Path.{_≡_};
 ghost use mathlib.Core.List.{[], _∷_, _++_};
 ghost use lib.ListN.{drop};
-ghost use Rattle.bench_command.specs.Numeral.{count, total};
-ghost use Rattle.bench_command.specs.Lines.{post, retract, run, commit};
-ghost use Rattle.bench_parsing.specs.Parsing.{Parses, Numbers};
-ghost use Rattle.bench_parsing.specs.Steps.{Begins, Lasts, totalOf};
+ghost use Rattle.bench_command.specs.Numeral.{digitCount, total};
+ghost use Rattle.bench_command.specs.Lines.{postWord, retractWord, runWord, commitWord};
+ghost use Rattle.bench_parsing.specs.Promises.{Parses};
+ghost use Rattle.bench_parsing.specs.Steps.{Begins, Numbers, Lasts, totalOf};
 use bench_command::Command;
 use bench_command::Parsed;
 use refusal::Refusal;
@@ -36,7 +36,7 @@ fn begins(line: &[u8], word: &[u8]) -> bool
 
 // How many digits stand at a place.
 fn digit_count(line: &[u8], at: usize) -> usize
-    ensures { λ r. ⌜ r ≡ count (drop at (now (line .entry))) ⌝ }
+    ensures { λ r. ⌜ r ≡ digitCount (drop at (now (line .entry))) ⌝ }
 {
     let mut i = at;
     while i < line.len() {
@@ -59,7 +59,7 @@ enum Total {
 
 // What the n digits at a place say.
 fn digit_total(line: &[u8], at: usize, n: usize) -> Total
-    requires { ⌜ n ≡ count (drop at (now line)) ⌝ }
+    requires { ⌜ n ≡ digitCount (drop at (now line)) ⌝ }
     ensures { λ r. ⌜ r ≡ totalOf (total 0 (drop at (now (line .entry)))) ⌝ }
 {
     let mut v: u64 = 0;
@@ -112,7 +112,7 @@ fn number_after(line: &[u8], at: usize) -> Number
 
 // "post STATION TIME KIND VALUE", where the line begins with post.
 fn parse_post(line: &[u8]) -> Parsed
-    requires { ⌜ now line ≡ post ++ drop 4 (now line) ⌝ }
+    requires { ⌜ now line ≡ postWord ++ drop 4 (now line) ⌝ }
     ensures { λ r. ⌜ Parses (now (line .entry)) r ⌝ }
 {
     let Number::Value(station, a) = number_after(line, 4) else {
@@ -152,7 +152,7 @@ fn last_number(line: &[u8], at: usize) -> Number
 }
 
 fn parse_retract(line: &[u8]) -> Parsed
-    requires { ⌜ now line ≡ retract ++ drop 7 (now line) ⌝ }
+    requires { ⌜ now line ≡ retractWord ++ drop 7 (now line) ⌝ }
     ensures { λ r. ⌜ Parses (now (line .entry)) r ⌝ }
 {
     let Number::Value(number, _) = last_number(line, 7) else {
@@ -163,7 +163,7 @@ fn parse_retract(line: &[u8]) -> Parsed
 
 // "run" or "run STATION"
 fn parse_run(line: &[u8]) -> Parsed
-    requires { ⌜ now line ≡ run ++ drop 3 (now line) ⌝ }
+    requires { ⌜ now line ≡ runWord ++ drop 3 (now line) ⌝ }
     ensures { λ r. ⌜ Parses (now (line .entry)) r ⌝ }
 {
     if line.len() == 3 {
@@ -176,7 +176,7 @@ fn parse_run(line: &[u8]) -> Parsed
 }
 
 fn parse_commit(line: &[u8]) -> Parsed
-    requires { ⌜ now line ≡ commit ++ drop 6 (now line) ⌝ }
+    requires { ⌜ now line ≡ commitWord ++ drop 6 (now line) ⌝ }
     ensures { λ r. ⌜ Parses (now (line .entry)) r ⌝ }
 {
     let Number::Value(time, _) = last_number(line, 6) else {

@@ -5,7 +5,7 @@ use Prim.Native.Nat.{ℕ, suc, _+_, _≤_, _<_}
 use native.Mathlib.Omega.{arith}
 use lib.ListN.{length, set, take, drop, length-append, length-set, take-append-drop}
 use lib.Seq.{length-take-le, take-at, drop-at, drop-drop, set-split}
-use Rattle.bench_printing.specs.Printing.{Appends}
+use Rattle.bench_printing.specs.Steps.{Appends}
 
 pub nothing : (at : ℕ) (xs : List ℕ) → Appends [] at xs at xs
 nothing at xs =

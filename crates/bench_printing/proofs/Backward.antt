@@ -9,7 +9,7 @@ use lib.ListN.{length, getD, set, take, drop, length-append, length-drop, take-a
 use lib.Seq.{length-take-le, set-at, take-suc}
 use borrow.Author.Tests.{ltb-true, ltb-false}
 use Rattle.bench_command.specs.Decimal.{digits, decimal}
-use Rattle.bench_printing.specs.Printing.{Appends}
+use Rattle.bench_printing.specs.Steps.{Appends}
 use Rattle.bench_command.proofs.Tenths.{digits-one, digits-more}
 
 -- as many places as it takes are enough

@@ -22,7 +22,8 @@ use Rattle.bench_command.specs.declared.Output.{Output}
 use Rattle.bench_command.specs.declared.Output.the-variants as Out
 use Rattle.bench_command.specs.Decimal.{decimal, Fits}
 use Rattle.bench_command.specs.Lines.{spaced, outputOf, entryLine}
-use Rattle.bench_printing.specs.Printing.{Prints, Appends}
+use Rattle.bench_printing.specs.Promises.{Prints}
+use Rattle.bench_printing.specs.Steps.{Appends}
 use Rattle.bench_command.proofs.Reading.{length-one, length-more}
 use Rattle.bench_printing.proofs.Backward.{at-most-20}
 

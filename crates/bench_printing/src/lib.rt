@@ -5,7 +5,8 @@ ghost use mathlib.Core.List.{[], _∷_, _++_};
 ghost use lib.ListN.{length};
 ghost use Rattle.bench_command.specs.Decimal.{decimal};
 ghost use Rattle.bench_command.specs.Lines.{spaced, outputOf, entryLine};
-ghost use Rattle.bench_printing.specs.Printing.{Appends, Prints};
+ghost use Rattle.bench_printing.specs.Promises.{Prints};
+ghost use Rattle.bench_printing.specs.Steps.{Appends};
 use bench_command::Output;
 use line::Event;
 

@@ -12,10 +12,10 @@ use Rattle.words.proofs.Laws.{load-lt}
 use Rattle.calendar_bitmap.specs.Child.{child}
 use Rattle.calendar_bitmap.proofs.ChildLaws.{leading-first}
 use Rattle.calendar_buckets.specs.Cells.{halfAt}
-use Rattle.calendar_buckets.specs.Table.{dueOf, bucketOf, nodeOf, rootOf, headOf, Due, Table}
+use Rattle.calendar_buckets.specs.Table.{dueOf, bucketOf, nodeOf, rootOf, bucketHead, Due, Table}
 use Rattle.calendar_buckets.proofs.TreeLaws.{set-above, some-above, some-below}
 use Rattle.calendar_buckets.proofs.Heads.{head-station, head-some}
-use Rattle.calendar.specs.Ring.{slotOf, leafIn, ringEnd}
+use Rattle.calendar.specs.Ring.{slotOfTime, leafIn, ringEnd}
 use Rattle.calendar.specs.Rules.{Calendar}
 use Rattle.calendar.specs.Bytes.{widthOf, limitOf, Sound, stateOf}
 use Rattle.calendar.proofs.States.{time-at, time-of}
@@ -27,7 +27,7 @@ pub record RegisteredIn (q : Calendar) (r : ℕ) (P : ℕ → Type 0) : Type 0 w
   pub time : ℕ
   pub has : getD (q .times) station none ≡ some time
   pub ring : time < ringEnd 16 (q .width) (q .floor)
-  pub slot : slotOf 16 (q .width) time ≡ r
+  pub slot : slotOfTime 16 (q .width) time ≡ r
   pub leaf : P (leafIn 16 (q .width) time)
 
 -- ---- the bits over the heads
@@ -47,18 +47,18 @@ module _ (xs : List ℕ) (T : Table xs) (r i : ℕ) (lr : r < 16) (li : i < 16) 
       let F = leading-first 16 (nodeOf xs (r * 16 + i)) (half-lt (5121 + (r * 16 + i)) xs b) in
       (leadingZeros 16 (nodeOf xs (r * 16 + i)), F .some nz, F .set (F .some nz))
 
-  node-head : (k : ℕ) → k < 16 → child 16 (nodeOf xs (r * 16 + i)) k ≡ 1 → headOf xs ((r * 16 + i) * 16 + k) ≡ 0 → ⊥
+  node-head : (k : ℕ) → k < 16 → child 16 (nodeOf xs (r * 16 + i)) k ≡ 1 → bucketHead xs ((r * 16 + i) * 16 + k) ≡ 0 → ⊥
   node-head k lk e =
       let d : ((r * 16 + i) * 16 + k) / 16 ≡ r * 16 + i = omega arith in
       let m : ((r * 16 + i) * 16 + k) % 16 ≡ k = omega arith in
-      some-below 16 4352 (nodeOf xs) (headOf xs) ((r * 16 + i) * 16 + k) (T .tree .leaves) (omega arith) (ap₂ (λ (x y : ℕ). child 16 (nodeOf xs x) y) d m ∙ e)
+      some-below 16 4352 (nodeOf xs) (bucketHead xs) ((r * 16 + i) * 16 + k) (T .tree .leaves) (omega arith) (ap₂ (λ (x y : ℕ). child 16 (nodeOf xs x) y) d m ∙ e)
 
-  head-node : (k : ℕ) → k < 16 → (headOf xs ((r * 16 + i) * 16 + k) ≡ 0 → ⊥) → child 16 (nodeOf xs (r * 16 + i)) k ≡ 1
+  head-node : (k : ℕ) → k < 16 → (bucketHead xs ((r * 16 + i) * 16 + k) ≡ 0 → ⊥) → child 16 (nodeOf xs (r * 16 + i)) k ≡ 1
   head-node k lk nz =
       let d : ((r * 16 + i) * 16 + k) / 16 ≡ r * 16 + i = omega arith in
       let m : ((r * 16 + i) * 16 + k) % 16 ≡ k = omega arith in
       ap₂ (λ (x y : ℕ). child 16 (nodeOf xs x) y) (sym d) (sym m)
-      ∙ set-above 16 4352 (nodeOf xs) (headOf xs) ((r * 16 + i) * 16 + k) (T .tree .leaves) (omega arith) nz
+      ∙ set-above 16 4352 (nodeOf xs) (bucketHead xs) ((r * 16 + i) * 16 + k) (T .tree .leaves) (omega arith) nz
 
   root-node : child 16 (rootOf xs r) i ≡ 1 → nodeOf xs (r * 16 + i) ≡ 0 → ⊥
   root-node e =
@@ -66,32 +66,32 @@ module _ (xs : List ℕ) (T : Table xs) (r i : ℕ) (lr : r < 16) (li : i < 16) 
       let m : (r * 16 + i) % 16 ≡ i = omega arith in
       some-below 16 272 (rootOf xs) (nodeOf xs) (r * 16 + i) (T .tree .nodes) (omega arith) (ap₂ (λ (x y : ℕ). child 16 (rootOf xs x) y) d m ∙ e)
 
-  head-root : (k : ℕ) → k < 16 → (headOf xs ((r * 16 + i) * 16 + k) ≡ 0 → ⊥) → child 16 (rootOf xs r) i ≡ 1
+  head-root : (k : ℕ) → k < 16 → (bucketHead xs ((r * 16 + i) * 16 + k) ≡ 0 → ⊥) → child 16 (rootOf xs r) i ≡ 1
   head-root k lk nz =
       let d : ((r * 16 + i) * 16 + k) / 16 ≡ r * 16 + i = omega arith in
       let f : (r * 16 + i) / 16 ≡ r = omega arith in
       let m : (r * 16 + i) % 16 ≡ i = omega arith in
       ap₂ (λ (x y : ℕ). child 16 (rootOf xs x) y) (sym f) (sym m)
       ∙ set-above 16 272 (rootOf xs) (nodeOf xs) (r * 16 + i) (T .tree .nodes) (omega arith)
-      (λ z. some-above 16 4352 (nodeOf xs) (headOf xs) ((r * 16 + i) * 16 + k) (T .tree .leaves) (omega arith) nz (ap (nodeOf xs) d ∙ z))
+      (λ z. some-above 16 4352 (nodeOf xs) (bucketHead xs) ((r * 16 + i) * 16 + k) (T .tree .leaves) (omega arith) nz (ap (nodeOf xs) d ∙ z))
 
 -- ---- the bits over the times
 
 -- a number of leaf widths is its block's slot and its leaf there
-digits : (w t r c : ℕ) → c < 256 → r < 16 → t / w % 4096 ≡ r * 256 + c → (slotOf 16 w t ≡ r) × (leafIn 16 w t ≡ c)
+digits : (w t r c : ℕ) → c < 256 → r < 16 → t / w % 4096 ≡ r * 256 + c → (slotOfTime 16 w t ≡ r) × (leafIn 16 w t ≡ c)
 digits w t r c lc lr e = let d : t / w / 256 ≡ t / (w * 256) = div-div-eq-div-mul t w 256 in (omega arith, omega arith)
 
-joined : (w t r c : ℕ) → slotOf 16 w t ≡ r → leafIn 16 w t ≡ c → t / w % 4096 ≡ r * 256 + c
+joined : (w t r c : ℕ) → slotOfTime 16 w t ≡ r → leafIn 16 w t ≡ c → t / w % 4096 ≡ r * 256 + c
 joined w t r c e f = let d : t / w / 256 ≡ t / (w * 256) = div-div-eq-div-mul t w 256 in omega arith
 
 module _ (xs : List ℕ) (S : Sound xs) (r i : ℕ) (lr : r < 16) (li : i < 16) where
   -- a filled leaf has a station
-  filled-registered : (k : ℕ) → k < 16 → (P : ℕ → Type 0) → P (i * 16 + k) → (headOf xs ((r * 16 + i) * 16 + k) ≡ 0 → ⊥) → RegisteredIn (stateOf xs) r P
+  filled-registered : (k : ℕ) → k < 16 → (P : ℕ → Type 0) → P (i * 16 + k) → (bucketHead xs ((r * 16 + i) * 16 + k) ≡ 0 → ⊥) → RegisteredIn (stateOf xs) r P
   unfolding stateOf
   filled-registered k lk P p nz =
       let l : ℕ = (r * 16 + i) * 16 + k in
-      let e : headOf xs ((r * 16 + i) * 16 + k) ≡ suc (headOf xs ((r * 16 + i) * 16 + k) - 1) = omega arith in
-      go (headOf xs ((r * 16 + i) * 16 + k) - 1) (head-station xs (S .table) ((r * 16 + i) * 16 + k) (headOf xs ((r * 16 + i) * 16 + k) - 1) (omega arith) e)
+      let e : bucketHead xs ((r * 16 + i) * 16 + k) ≡ suc (bucketHead xs ((r * 16 + i) * 16 + k) - 1) = omega arith in
+      go (bucketHead xs ((r * 16 + i) * 16 + k) - 1) (head-station xs (S .table) ((r * 16 + i) * 16 + k) (bucketHead xs ((r * 16 + i) * 16 + k) - 1) (omega arith) e)
     where
       go : (h : ℕ) → (h < 256) × (Due xs h) × (bucketOf xs h ≡ (r * 16 + i) * 16 + k) → RegisteredIn (stateOf xs) r P
       go h H =
@@ -108,7 +108,7 @@ module _ (xs : List ℕ) (S : Sound xs) (r i : ℕ) (lr : r < 16) (li : i < 16) 
 
   -- a registered station's leaf is filled
   registered-filled : (k : ℕ) → (P : ℕ → Type 0) → (G : RegisteredIn (stateOf xs) r P) → leafIn 16 (stateOf xs .width) (G .time) ≡ i * 16 + k
-      → headOf xs ((r * 16 + i) * 16 + k) ≡ 0 → ⊥
+      → bucketHead xs ((r * 16 + i) * 16 + k) ≡ 0 → ⊥
   unfolding stateOf
   registered-filled k P G e =
       let N = time-of xs S (G .station) (G .time) (G .has) in
@@ -118,7 +118,7 @@ module _ (xs : List ℕ) (S : Sound xs) (r i : ℕ) (lr : r < 16) (li : i < 16) 
       S .homes (G .station) (N .1) due
       ∙ home-in (widthOf xs) (limitOf xs) (dueOf xs (G .station) - 1) (G .station) (rw (t, S .header .limit-is) (G .ring))
       ∙ ap (λ (y : ℕ). y / widthOf xs % 4096) t ∙ joined (widthOf xs) (G .time) r (i * 16 + k) (G .slot) e ∙ omega arith in
-      λ z. head-some xs (S .table) (G .station) (N .1) due (ap (headOf xs) b ∙ z)
+      λ z. head-some xs (S .table) (G .station) (N .1) due (ap (bucketHead xs) b ∙ z)
 
   -- a child of a root is a sixteenth of a block: set exactly when a station is registered there
   pub root-bit : AllBytes xs → (child 16 (rootOf xs r) i ≡ 1) ↔ RegisteredIn (stateOf xs) r (λ c. c / 16 ≡ i)

@@ -6,7 +6,7 @@ use Rattle.refusal.specs.Tests.{Check, judged}
 use Rattle.calendar.specs.declared.Answer.{Answer}
 use Rattle.calendar.specs.declared.Least.{Least}
 use Rattle.calendar.specs.declared.Least.the-variants.{At}
-use Rattle.calendar.specs.Rules.{Calendar, lowestChecks, LeastAt, unregistered, registered, advanced}
+use Rattle.calendar.specs.Rules.{Calendar, lowestChecks, LeastAt, unregistered, registeredAt, advanced}
 use Rattle.calendar.specs.Bytes.{Sound, stateOf}
 use Rattle.calendar.specs.Promises.{verdictOf, leastVerdict, Obeys, Names}
 use Rattle.calendar.specs.Left.{Left, by-open, by-register, by-unregister, by-extract, by-advance, by-refusal, by-none, by-no-open}
@@ -14,7 +14,7 @@ use Rattle.calendar.specs.Left.{Left, by-open, by-register, by-unregiste
 -- the bytes are a calendar's and stand for that state
 pub left : {xs : List ℕ} {q : Calendar} → Left xs q → Sound xs × (stateOf xs ≡ q)
 left (by-open n w P) = (P .sound refl, P .state refl)
-left (by-register s t L P) = let H = left L in (P .sound (H .0), P .state (H .0) refl ∙ ap (λ (p : Calendar). registered p s t) (H .1))
+left (by-register s t L P) = let H = left L in (P .sound (H .0), P .state (H .0) refl ∙ ap (λ (p : Calendar). registeredAt p s t) (H .1))
 left (by-unregister s L P) = let H = left L in (P .sound (H .0), P .state (H .0) refl ∙ ap (λ (p : Calendar). unregistered p s) (H .1))
 left (by-extract s t L P) = let H = left L in (P .sound (H .0), P .state (H .0) s t refl ∙ ap (λ (p : Calendar). unregistered p s) (H .1))
 left (by-advance f L P) = let H = left L in (P .sound (H .0), P .state (H .0) refl ∙ ap (λ (p : Calendar). advanced p f) (H .1))

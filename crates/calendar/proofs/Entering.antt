@@ -6,8 +6,8 @@ use Prim.Native.Nat.{ℕ, suc, _+_, _-_, _*_, _≤_, _<_}
 use native.Mathlib.Omega.{arith}
 use Rattle.calendar_buckets.specs.Table.{dueOf, bucketOf, bucketFor, Due, Kept, Changed, Gone, Placed}
 use Rattle.words.proofs.Cases.{eq-or}
-use Rattle.calendar.specs.Ring.{blockOf, slotOf, ringEnd, leafFor}
-use Rattle.calendar.specs.Bytes.{widthOf, floorOf, startOf, endOf, limitOf, slotIn, countOf, homeOf, Header, Sound}
+use Rattle.calendar.specs.Ring.{blockOf, slotOfTime, ringEnd, leafFor}
+use Rattle.calendar.specs.Bytes.{widthOf, floorOf, ringStart, endOf, limitOf, slotIn, countOf, homeOf, Header, Sound}
 use Rattle.calendar.specs.Steps.{Entered}
 
 -- ---- the header is as it was
@@ -20,7 +20,7 @@ module _ (xs ys : List ℕ) (K : Kept xs ys) where
   kept-header H =
       let w : widthOf ys ≡ widthOf xs = K .words 0 (omega arith) in
       let f : floorOf ys ≡ floorOf xs = K .words 1 (omega arith) in
-      let s : startOf ys ≡ startOf xs = K .words 2 (omega arith) in
+      let s : ringStart ys ≡ ringStart xs = K .words 2 (omega arith) in
       let e : endOf ys ≡ endOf xs = K .words 3 (omega arith) in
       let l : limitOf ys ≡ limitOf xs = K .words 4 (omega arith) in
       let t : slotIn ys ≡ slotIn xs = K .words 5 (omega arith) in
@@ -34,7 +34,7 @@ module _ (xs ys : List ℕ) (K : Kept xs ys) where
         start-is = s ∙ H .start-is ∙ sym (ap₂ (λ (a b : ℕ). blockOf 16 a b * (a * 256)) w f);
         end-is = e ∙ H .end-is ∙ sym (ap₂ (λ (a b : ℕ). (blockOf 16 a b + 1) * (a * 256)) w f);
         limit-is = l ∙ H .limit-is ∙ sym (ap₂ (λ (a b : ℕ). ringEnd 16 a b) w f);
-        slot-is = t ∙ H .slot-is ∙ sym (ap₂ (λ (a b : ℕ). slotOf 16 a b) w f);
+        slot-is = t ∙ H .slot-is ∙ sym (ap₂ (λ (a b : ℕ). slotOfTime 16 a b) w f);
       }
 
   -- the bucket to which a due number's time belongs

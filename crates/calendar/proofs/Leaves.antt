@@ -10,7 +10,7 @@ use lib.Arith.{mod-mul}
 use borrow.Author.Tests.{lt-ltb, le-ltb}
 use Rattle.calendar_buckets.specs.Table.{bucketFor}
 use Rattle.calendar.specs.Ring.{blockOf, leafFor}
-use Rattle.calendar.specs.Bytes.{widthOf, floorOf, startOf, limitOf, slotIn, Header}
+use Rattle.calendar.specs.Bytes.{widthOf, floorOf, ringStart, limitOf, slotIn, Header}
 
 pub leaf-in : (w end t : ℕ) → t < end → leafFor 16 w end t ≡ t / w % 4096
 unfolding leafFor
@@ -48,15 +48,15 @@ ring-turns w floor t p f h =
     (omega arith, omega arith)
 
 module _ (xs : List ℕ) (H : Header xs) (t : ℕ) (f : floorOf xs ≤ t) where
-  pub start-before : startOf xs ≤ t
+  pub start-before : ringStart xs ≤ t
   start-before = omega (arith, H .start-is, div-mul-le-self (floorOf xs) (widthOf xs * 256))
 
   pub leaf-is : t < limitOf xs
-      → (slotIn xs % 16 * 256 + (t - startOf xs) % 4294967296 / (widthOf xs % 4294967296) % 4096) % 4096 ≡ leafFor 16 (widthOf xs) (limitOf xs) t
+      → (slotIn xs % 16 * 256 + (t - ringStart xs) % 4294967296 / (widthOf xs % 4294967296) % 4096) % 4096 ≡ leafFor 16 (widthOf xs) (limitOf xs) t
   leaf-is h =
       let w : ℕ = widthOf xs in
       let b : ℕ = blockOf 16 (widthOf xs) (floorOf xs) in
-      let d : ℕ = t - startOf xs in
+      let d : ℕ = t - ringStart xs in
       let spread : b * (w * 256) ≡ b * 256 * w = ap (λ (y : ℕ). b * y) (mul-comm w 256) ∙ sym (mul-assoc b 256 w) in
       let t-is : t ≡ b * 256 * w + d = omega (arith, start-before, H .start-is) in
       let near : d < 4096 * w = omega (arith, H .start-is, H .limit-is, add-mul b 16 (w * 256)) in
@@ -68,6 +68,6 @@ module _ (xs : List ℕ) (H : Header xs) (t : ℕ) (f : floorOf xs ≤ t) where
       omega (arith, H .slot-is)
 
   -- the same of what is read
-  pub leaf-read : (slot start width limit : ℕ) → slot ≡ slotIn xs → start ≡ startOf xs → width ≡ widthOf xs → limit ≡ limitOf xs → t < limit
+  pub leaf-read : (slot start width limit : ℕ) → slot ≡ slotIn xs → start ≡ ringStart xs → width ≡ widthOf xs → limit ≡ limitOf xs → t < limit
       → (slot % 16 * 256 + (t - start) % 4294967296 / (width % 4294967296) % 4096) % 4096 ≡ leafFor 16 (widthOf xs) (limitOf xs) t
   leaf-read slot start width limit es et ew el h = rw (es, et, ew) (leaf-is (subst (λ (y : ℕ). t < y) el h))

@@ -12,7 +12,7 @@ use Rattle.refusal.specs.Tests.{Check, accepted, refused, orNext, judged}
 use Rattle.calendar_buckets.specs.Table.{Table, Kept, Gone}
 use Rattle.calendar.specs.declared.Answer.{Answer}
 use Rattle.calendar.specs.declared.Answer.the-variants.{Done, Refused}
-use Rattle.calendar.specs.Rules.{Calendar, anyBefore, registerChecks, registered, unregisterChecks, unregistered, advanceChecks, advanced}
+use Rattle.calendar.specs.Rules.{Calendar, anyBefore, registerChecks, registeredAt, unregisterChecks, unregistered, advanceChecks, advanced}
 use Rattle.calendar.specs.Bytes.{floorOf, countOf, Sound, timeFor, stateOf}
 use Rattle.calendar.specs.Promises.{Obeys}
 use Rattle.calendar.specs.Steps.{Entered, Risen}
@@ -50,30 +50,30 @@ one-of xs n s h l S = subst (λ (y : ℕ). s < y) (h S) l
 
 module _ (xs : List ℕ) (s t : ℕ) where
   abbrev ToRegister : Answer → List ℕ → Type 0
-  ToRegister r ys = Obeys (λ q. registerChecks q s t) (λ q. registered q s t) xs r ys
+  ToRegister r ys = Obeys (λ q. registerChecks q s t) (λ q. registeredAt q s t) xs r ys
 
   pub register-9 : (Sound xs → countOf xs ≤ s) → ToRegister (Refused Station) xs
   unfolding judged orNext
-  register-9 h = obeys-refused (λ q. registerChecks q s t) (λ q. registered q s t) xs Station (λ S. rw (state-length, le-leb (countOf xs) s (h S)))
+  register-9 h = obeys-refused (λ q. registerChecks q s t) (λ q. registeredAt q s t) xs Station (λ S. rw (state-length, le-leb (countOf xs) s (h S)))
 
   module _ (h : Sound xs → s < countOf xs) where
     pub register-11 : 1099511627775 < t → ToRegister (Refused Late) xs
     unfolding judged orNext
     register-11 k =
-        obeys-refused (λ q. registerChecks q s t) (λ q. registered q s t) xs Late
+        obeys-refused (λ q. registerChecks q s t) (λ q. registeredAt q s t) xs Late
         (λ S. rw (state-length, lt-leb (countOf xs) s (h S), lt-ltb 1099511627775 t k))
 
     module _ (k : t ≤ 1099511627775) where
       pub register-12 : t < floorOf xs → ToRegister (Refused Early) xs
       unfolding judged orNext
       register-12 l =
-          obeys-refused (λ q. registerChecks q s t) (λ q. registered q s t) xs Early
+          obeys-refused (λ q. registerChecks q s t) (λ q. registeredAt q s t) xs Early
           (λ S. rw (state-length, lt-leb (countOf xs) s (h S), le-ltb 1099511627775 t k, state-floor, lt-ltb t (floorOf xs) l))
 
       pub register-done : (ys : List ℕ) → floorOf xs ≤ t → (Sound xs → s < countOf xs → floorOf xs ≤ t → Entered s (suc t) xs ys) → ToRegister Done ys
       unfolding judged orNext timeFor
       register-done ys l E =
-          obeys-done (λ q. registerChecks q s t) (λ q. registered q s t) xs ys
+          obeys-done (λ q. registerChecks q s t) (λ q. registeredAt q s t) xs ys
           (λ S. rw (state-length, lt-leb (countOf xs) s (h S), le-ltb 1099511627775 t k, state-floor, le-ltb t (floorOf xs) l))
           (λ S. state-entered xs ys S s (suc t) (h S) (E S (h S) l)) (λ S. E S (h S) l .sound)
 

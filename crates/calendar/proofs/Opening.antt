@@ -17,17 +17,17 @@ use Rattle.calendar_buckets.specs.Cells.{wordAt, putWord}
 use Rattle.calendar_buckets.specs.Table.{dueOf, Cleared}
 use Rattle.calendar.specs.declared.Answer.the-variants.{Done, Refused}
 use Rattle.calendar.specs.Ring.{blockOf}
-use Rattle.calendar.specs.Rules.{openChecks, opened}
+use Rattle.calendar.specs.Rules.{openChecks, openedCalendar}
 use Rattle.calendar.specs.Bytes.{widthOf, floorOf, countOf, Header, Sound, timesFrom, stateOf}
-use Rattle.calendar.specs.Promises.{Opens}
-use Rattle.calendar.specs.Steps.{Begun}
+use Rattle.calendar.specs.Promises.{OpensCalendar}
+use Rattle.calendar.specs.Steps.{BegunCalendar}
 use Rattle.calendar.proofs.Times.{times-none}
 use Rattle.calendar.proofs.Writing.{putAt, Written, written-start, written-put, header-is}
 
 -- ---- begin
 
 pub begun : (xs y0 y1 y2 y3 y4 y5 ys : List ℕ) (n w : ℕ) → n ≤ 256 → w ≤ 1048576 → y0 ≡ putWord 0 w xs → y1 ≡ putWord 1 0 y0 → y2 ≡ putWord 2 0 y1
-    → y3 ≡ putWord 3 (w * 256) y2 → y4 ≡ putWord 4 (w * 4096) y3 → y5 ≡ putWord 5 0 y4 → ys ≡ putWord 6 n y5 → Begun n w xs ys
+    → y3 ≡ putWord 3 (w * 256) y2 → y4 ≡ putWord 4 (w * 4096) y3 → y5 ≡ putWord 5 0 y4 → ys ≡ putWord 6 n y5 → BegunCalendar n w xs ys
 begun xs y0 y1 y2 y3 y4 y5 ys n w mn mw e0 e1 e2 e3 e4 e5 e6 = record {
   size = all .size;
   table = all .table;
@@ -58,7 +58,7 @@ begun xs y0 y1 y2 y3 y4 y5 ys n w mn mw e0 e1 e2 e3 e4 e5 e6 = record {
 -- ---- open
 
 module _ (xs : List ℕ) (n w : ℕ) where
-  opens-refused : (e : Refusal) → refused (numberOf e) ≡ judged (openChecks n w (length xs)) → Opens n w xs (Refused e) xs
+  opens-refused : (e : Refusal) → refused (numberOf e) ≡ judged (openChecks n w (length xs)) → OpensCalendar n w xs (Refused e) xs
   opens-refused e h = record {
     refusal = λ _ _. refl;
     answer = h;
@@ -66,11 +66,11 @@ module _ (xs : List ℕ) (n w : ℕ) where
     sound = λ q. absurd (let z : _≡_ {A = ℕ} 0 1 = cc in omega arith);
   }
 
-  pub open-narrow : w ≡ 0 → Opens n w xs (Refused Width) xs
+  pub open-narrow : w ≡ 0 → OpensCalendar n w xs (Refused Width) xs
   unfolding judged orNext
   open-narrow h = opens-refused Width (rw (lt-ltb w 1 (omega arith)))
 
-  pub open-wide : (w ≡ 0 → ⊥) → 1048576 < w → Opens n w xs (Refused Width) xs
+  pub open-wide : (w ≡ 0 → ⊥) → 1048576 < w → OpensCalendar n w xs (Refused Width) xs
   unfolding judged orNext
   open-wide p h = opens-refused Width (rw (le-ltb w 1 (omega arith), lt-ltb 1048576 w h))
 
@@ -78,22 +78,22 @@ module _ (xs : List ℕ) (n w : ℕ) where
     width-in : ltb w 1 || ltb 1048576 w ≡ false
     width-in = rw (le-ltb w 1 (omega arith), le-ltb 1048576 w mw)
 
-    space : ltb n 1 || (ltb 256 n || ltb (length xs) (32768 + 64 * n)) ≡ true → Opens n w xs (Refused Space) xs
+    space : ltb n 1 || (ltb 256 n || ltb (length xs) (32768 + 64 * n)) ≡ true → OpensCalendar n w xs (Refused Space) xs
     unfolding judged orNext
     space h = opens-refused Space (rw (width-in, h))
 
-    pub open-none : n ≡ 0 → Opens n w xs (Refused Space) xs
+    pub open-none : n ≡ 0 → OpensCalendar n w xs (Refused Space) xs
     open-none h = space (rw (lt-ltb n 1 (omega arith)))
 
     module _ (pn : n ≡ 0 → ⊥) where
-      pub open-many : 256 < n → Opens n w xs (Refused Space) xs
+      pub open-many : 256 < n → OpensCalendar n w xs (Refused Space) xs
       open-many h = space (rw (le-ltb n 1 (omega arith), lt-ltb 256 n h))
 
       module _ (mn : n ≤ 256) where
-        pub open-short : length xs < 32768 + 64 * n → Opens n w xs (Refused Space) xs
+        pub open-short : length xs < 32768 + 64 * n → OpensCalendar n w xs (Refused Space) xs
         open-short h = space (rw (le-ltb n 1 (omega arith), le-ltb 256 n mn, lt-ltb (length xs) (32768 + 64 * n) h))
 
-        module _ (room : 32768 + 64 * n ≤ length xs) (ys zs : List ℕ) (C : Cleared xs ys) (B : Begun n w ys zs) where
+        module _ (room : 32768 + 64 * n ≤ length xs) (ys zs : List ℕ) (C : Cleared xs ys) (B : BegunCalendar n w ys zs) where
           long : 64 ≤ length ys
           long = omega (arith, C .kept .size)
 
@@ -118,7 +118,7 @@ module _ (xs : List ℕ) (n w : ℕ) where
             homes = λ x l r. absurd (r (absent x l));
           }
 
-          open-state : stateOf zs ≡ opened n w
+          open-state : stateOf zs ≡ openedCalendar n w
           unfolding stateOf
           open-state =
               let a : widthOf zs ≡ w = B .width-is long in
@@ -127,7 +127,7 @@ module _ (xs : List ℕ) (n w : ℕ) where
               ap (timesFrom (dueOf zs) 0) (B .count-is long) ∙ times-none (dueOf zs) 0 n (λ x l. absent x (omega arith)) in
               λ i. record { width = a i; floor = f i; times = t i }
 
-          pub open-done : Opens n w xs Done zs
+          pub open-done : OpensCalendar n w xs Done zs
           unfolding judged orNext
           open-done = record {
             refusal = λ e q. absurd (let z : _≡_ {A = ℕ} 0 1 = cc in omega arith);

@@ -14,8 +14,8 @@ use Rattle.calendar_buckets.specs.Table.{dueOf, bucketOf, Table}
 use Rattle.words.proofs.Cases.{eq-or}
 use Rattle.calendar_buckets.proofs.CellLaws.{length-word, word-same, word-other}
 use Rattle.calendar_buckets.proofs.Header.{header-due, header-bucket, header-table}
-use Rattle.calendar.specs.Ring.{blockOf, slotOf, ringEnd}
-use Rattle.calendar.specs.Bytes.{widthOf, floorOf, startOf, endOf, limitOf, slotIn, countOf, Header}
+use Rattle.calendar.specs.Ring.{blockOf, slotOfTime, ringEnd}
+use Rattle.calendar.specs.Bytes.{widthOf, floorOf, ringStart, endOf, limitOf, slotIn, countOf, Header}
 
 -- the words g with v at i
 abbrev pub putAt : (ℕ → ℕ) → ℕ → ℕ → ℕ → ℕ
@@ -47,8 +47,8 @@ written-put g xs ys zs i v W l f e = record {
 -- ---- the header that stands there then
 
 pub header-is : (ys : List ℕ) (w f n : ℕ) → 0 < w → w ≤ 1048576 → f ≤ suc horizon → 0 < n → n ≤ 256 → widthOf ys ≡ w → floorOf ys ≡ f
-    → startOf ys ≡ blockOf 16 w f * (w * 256) → endOf ys ≡ (blockOf 16 w f + 1) * (w * 256) → limitOf ys ≡ ringEnd 16 w f
-    → slotIn ys ≡ slotOf 16 w f → countOf ys ≡ n → Header ys
+    → ringStart ys ≡ blockOf 16 w f * (w * 256) → endOf ys ≡ (blockOf 16 w f + 1) * (w * 256) → limitOf ys ≡ ringEnd 16 w f
+    → slotIn ys ≡ slotOfTime 16 w f → countOf ys ≡ n → Header ys
 header-is ys w f n pw mw mf pn mn ew ef es ee el et en = record {
   width-pos = rw ew pw;
   width-most = rw ew mw;
@@ -58,5 +58,5 @@ header-is ys w f n pw mw mf pn mn ew ef es ee el et en = record {
   start-is = es ∙ sym (ap₂ (λ (a b : ℕ). blockOf 16 a b * (a * 256)) ew ef);
   end-is = ee ∙ sym (ap₂ (λ (a b : ℕ). (blockOf 16 a b + 1) * (a * 256)) ew ef);
   limit-is = el ∙ sym (ap₂ (λ (a b : ℕ). ringEnd 16 a b) ew ef);
-  slot-is = et ∙ sym (ap₂ (λ (a b : ℕ). slotOf 16 a b) ew ef);
+  slot-is = et ∙ sym (ap₂ (λ (a b : ℕ). slotOfTime 16 a b) ew ef);
 }

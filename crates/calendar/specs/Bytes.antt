@@ -7,7 +7,7 @@ use lib.ListN.{length}
 use Rattle.refusal.specs.Tests.{horizon}
 use Rattle.calendar_buckets.specs.Cells.{wordAt}
 use Rattle.calendar_buckets.specs.Table.{dueOf, bucketOf, bucketFor, Due, Table}
-use Rattle.calendar.specs.Ring.{blockOf, slotOf, ringEnd, leafFor}
+use Rattle.calendar.specs.Ring.{blockOf, slotOfTime, ringEnd, leafFor}
 use Rattle.calendar.specs.Rules.{Calendar}
 
 -- ---- the header
@@ -19,8 +19,8 @@ abbrev pub floorOf : List ℕ → ℕ
 floorOf xs = wordAt 1 xs
 
 -- where the floor's block starts and ends
-abbrev pub startOf : List ℕ → ℕ
-startOf xs = wordAt 2 xs
+abbrev pub ringStart : List ℕ → ℕ
+ringStart xs = wordAt 2 xs
 
 abbrev pub endOf : List ℕ → ℕ
 endOf xs = wordAt 3 xs
@@ -42,10 +42,10 @@ pub record Header (xs : List ℕ) : Type 0 where
   pub floor-most : floorOf xs ≤ suc horizon
   pub count-pos : 0 < countOf xs
   pub count-most : countOf xs ≤ 256
-  pub start-is : startOf xs ≡ blockOf 16 (widthOf xs) (floorOf xs) * (widthOf xs * 256)
+  pub start-is : ringStart xs ≡ blockOf 16 (widthOf xs) (floorOf xs) * (widthOf xs * 256)
   pub end-is : endOf xs ≡ (blockOf 16 (widthOf xs) (floorOf xs) + 1) * (widthOf xs * 256)
   pub limit-is : limitOf xs ≡ ringEnd 16 (widthOf xs) (floorOf xs)
-  pub slot-is : slotIn xs ≡ slotOf 16 (widthOf xs) (floorOf xs)
+  pub slot-is : slotIn xs ≡ slotOfTime 16 (widthOf xs) (floorOf xs)
 
 -- ---- the bytes are a calendar
 

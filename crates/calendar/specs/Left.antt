@@ -6,13 +6,13 @@ use Rattle.refusal.specs.declared.Refusal.{Refusal}
 use Rattle.refusal.specs.Tests.{Check}
 use Rattle.calendar.specs.declared.Answer.the-variants.{Done, Refused}
 use Rattle.calendar.specs.declared.Least.the-variants.{At, Refused as NoLeast}
-use Rattle.calendar.specs.Rules.{Calendar, opened, registerChecks, registered, unregisterChecks, unregistered, advanceChecks, advanced}
-use Rattle.calendar.specs.Promises.{Obeys, Extracts, Opens}
+use Rattle.calendar.specs.Rules.{Calendar, openedCalendar, registerChecks, registeredAt, unregisterChecks, unregistered, advanceChecks, advanced}
+use Rattle.calendar.specs.Promises.{Obeys, Extracts, OpensCalendar}
 
 pub data Left : List ℕ → Calendar → Type 0 where
-  by-open : {xs ys : List ℕ} (n w : ℕ) → Opens n w xs Done ys → Left ys (opened n w)
-  by-register : {xs ys : List ℕ} {q : Calendar} (s t : ℕ) → Left xs q → Obeys (λ p. registerChecks p s t) (λ p. registered p s t) xs Done ys
-      → Left ys (registered q s t)
+  by-open : {xs ys : List ℕ} (n w : ℕ) → OpensCalendar n w xs Done ys → Left ys (openedCalendar n w)
+  by-register : {xs ys : List ℕ} {q : Calendar} (s t : ℕ) → Left xs q → Obeys (λ p. registerChecks p s t) (λ p. registeredAt p s t) xs Done ys
+      → Left ys (registeredAt q s t)
   by-unregister : {xs ys : List ℕ} {q : Calendar} (s : ℕ) → Left xs q → Obeys (λ p. unregisterChecks p s) (λ p. unregistered p s) xs Done ys
       → Left ys (unregistered q s)
   by-extract : {xs ys : List ℕ} {q : Calendar} (s t : ℕ) → Left xs q → Extracts xs (At s t) ys → Left ys (unregistered q s)
@@ -22,4 +22,4 @@ pub data Left : List ℕ → Calendar → Type 0 where
   by-refusal : {xs ys : List ℕ} {q : Calendar} (e : Refusal) (checks : Calendar → List Check) (after : Calendar → Calendar)
       → Left xs q → Obeys checks after xs (Refused e) ys → Left ys q
   by-none : {xs ys : List ℕ} {q : Calendar} (e : Refusal) → Left xs q → Extracts xs (NoLeast e) ys → Left ys q
-  by-no-open : {xs ys : List ℕ} {q : Calendar} (e : Refusal) (n w : ℕ) → Left xs q → Opens n w xs (Refused e) ys → Left ys q
+  by-no-open : {xs ys : List ℕ} {q : Calendar} (e : Refusal) (n w : ℕ) → Left xs q → OpensCalendar n w xs (Refused e) ys → Left ys q

@@ -10,7 +10,7 @@ use Rattle.calendar.specs.declared.Answer.{Answer}
 use Rattle.calendar.specs.declared.Answer.the-variants.{Done, Refused}
 use Rattle.calendar.specs.declared.Least.{Least}
 use Rattle.calendar.specs.declared.Least.the-variants.{At, Refused as NoLeast}
-use Rattle.calendar.specs.Rules.{Calendar, openChecks, opened, unregistered, lowestChecks, LeastAt}
+use Rattle.calendar.specs.Rules.{Calendar, openChecks, openedCalendar, unregistered, lowestChecks, LeastAt}
 use Rattle.calendar.specs.Bytes.{Sound, stateOf}
 
 -- ---- the number that an answer says
@@ -43,8 +43,8 @@ pub record Extracts (xs : List ℕ) (r : Least) (ys : List ℕ) : Type 0 where
   pub sound : Sound xs → Sound ys
 
 -- "An opening doesn't depend on what its buffer held before"
-pub record Opens (n w : ℕ) (xs : List ℕ) (r : Answer) (ys : List ℕ) : Type 0 where
+pub record OpensCalendar (n w : ℕ) (xs : List ℕ) (r : Answer) (ys : List ℕ) : Type 0 where
   pub refusal : (e : Refusal) → r ≡ Refused e → ys ≡ xs
   pub answer : verdictOf r ≡ judged (openChecks n w (length xs))
-  pub state : r ≡ Done → stateOf ys ≡ opened n w
+  pub state : r ≡ Done → stateOf ys ≡ openedCalendar n w
   pub sound : r ≡ Done → Sound ys

@@ -34,8 +34,8 @@ abbrev pub openChecks : ℕ → ℕ → ℕ → List Check
 openChecks n w bytes = says 6 (widthOut w) ∷ says 7 (calendarSpaceOut n bytes) ∷ []
 
 -- "The floor starts at 0"
-abbrev pub opened : ℕ → ℕ → Calendar
-opened n w = record { width = w; floor = 0; times = replicate n none }
+abbrev pub openedCalendar : ℕ → ℕ → Calendar
+openedCalendar n w = record { width = w; floor = 0; times = replicate n none }
 
 -- ---- register ("moves a registered station") and unregister ("of an absent one: accepted, nothing done")
 
@@ -45,8 +45,8 @@ registerChecks q s t = says 9 (stationOut (length (q .times)) s) ∷ says 11 (ti
 abbrev pub withTime : Calendar → ℕ → Option ℕ → Calendar
 withTime q s o = record { width = q .width; floor = q .floor; times = set (q .times) s o }
 
-abbrev pub registered : Calendar → ℕ → ℕ → Calendar
-registered q s t = withTime q s (some t)
+abbrev pub registeredAt : Calendar → ℕ → ℕ → Calendar
+registeredAt q s t = withTime q s (some t)
 
 abbrev pub unregisterChecks : Calendar → ℕ → List Check
 unregisterChecks q s = says 9 (stationOut (length (q .times)) s) ∷ []

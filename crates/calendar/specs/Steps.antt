@@ -6,7 +6,7 @@ use Prim.Native.Nat.{ℕ, suc, _+_, _*_, _≤_, _<_}
 use lib.ListN.{length}
 use Rattle.calendar_buckets.specs.Lists.{rankOf}
 use Rattle.calendar_buckets.specs.Table.{dueOf, bucketOf, Due, Table, Kept, Waits}
-use Rattle.calendar.specs.Bytes.{widthOf, floorOf, startOf, endOf, limitOf, slotIn, countOf, homeOf, Header, Sound}
+use Rattle.calendar.specs.Bytes.{widthOf, floorOf, ringStart, endOf, limitOf, slotIn, countOf, homeOf, Header, Sound}
 
 -- ---- the first station
 
@@ -72,13 +72,13 @@ pub record Risen (floor : ℕ) (xs ys : List ℕ) : Type 0 where
 -- ---- open
 
 -- the header of n stations, leaf width w and floor 0, before a table that is as it was
-pub record Begun (n w : ℕ) (xs ys : List ℕ) : Type 0 where
+pub record BegunCalendar (n w : ℕ) (xs ys : List ℕ) : Type 0 where
   pub size : length ys ≡ length xs
   pub table : Table xs → Table ys
   pub dues : (x : ℕ) → x < 256 → dueOf ys x ≡ dueOf xs x
   pub width-is : 64 ≤ length xs → widthOf ys ≡ w
   pub floor-is : 64 ≤ length xs → floorOf ys ≡ 0
-  pub start-is : 64 ≤ length xs → startOf ys ≡ 0
+  pub start-is : 64 ≤ length xs → ringStart ys ≡ 0
   pub end-is : 64 ≤ length xs → endOf ys ≡ w * 256
   pub limit-is : 64 ≤ length xs → limitOf ys ≡ w * 4096
   pub slot-is : 64 ≤ length xs → slotIn ys ≡ 0

@@ -9,7 +9,7 @@ use Rattle.refusal.specs.Tests.{horizon}
 use Rattle.calendar_buckets.specs.Cells.{halfAt}
 use Rattle.calendar_buckets.specs.Lists.{Live, Lists}
 use Rattle.calendar_buckets.specs.Tree.{Tree}
-use Rattle.calendar_buckets.specs.Table.{dueOf, bucketOf, nextOf, prevOf, nodeOf, rootOf, headOf, Due, Table, Changed}
+use Rattle.calendar_buckets.specs.Table.{dueOf, bucketOf, nextPlace, prevPlace, nodeOf, rootOf, bucketHead, Due, Table, Changed}
 use Rattle.calendar_buckets.specs.Steps.{Chained}
 use Rattle.words.proofs.Cases.{eq-or}
 use Rattle.calendar_buckets.proofs.TreeLaws.{sums-same}
@@ -18,10 +18,10 @@ pub chained : {xs : List ℕ} → Table xs → Chained xs
 chained T = record { until = T .until; lists = T .lists }
 
 -- no link leads beyond the stations
-pub next-most : (xs : List ℕ) → Table xs → (p : ℕ) → p < 4608 → Live (dueOf xs) p → nextOf xs p ≤ 256
-next-most xs T p lp r = go (nextOf xs p) refl
+pub next-most : (xs : List ℕ) → Table xs → (p : ℕ) → p < 4608 → Live (dueOf xs) p → nextPlace xs p ≤ 256
+next-most xs T p lp r = go (nextPlace xs p) refl
   where
-    go : (n : ℕ) → nextOf xs p ≡ n → n ≤ 256
+    go : (n : ℕ) → nextPlace xs p ≡ n → n ≤ 256
     go zero e = omega arith
     go (suc m) e = let l = T .lists .front p lp r m e .station in omega arith
 
@@ -39,7 +39,7 @@ module _
     (buckets : (x : ℕ) → x < 256 → (x ≡ s → ⊥) → bucketOf us x ≡ bucketOf xs x)
     (most : v ≤ suc horizon)
     (right : (v ≡ 0 → ⊥) → (bucketOf us s < 4352) × (4096 ≤ bucketOf us s → bucketOf us s ≡ 4096 + s))
-    (L : Lists 4608 (bucketOf us) (dueOf us) (nextOf us) (prevOf us)) (B : Tree 16 17 (headOf us) (nodeOf us) (rootOf us))
+    (L : Lists 4608 (bucketOf us) (dueOf us) (nextPlace us) (prevPlace us)) (B : Tree 16 17 (bucketHead us) (nodeOf us) (rootOf us))
   where
     until : (x : ℕ) → x < 256 → (x ≡ s) ⊎ (x ≡ s → ⊥) → dueOf us x ≤ suc horizon
     until x l (inl e) = rw (e, this) most

@@ -5,7 +5,7 @@ use Prim.Native.Nat.{ℕ, suc, _+_, _-_, _≤_, _<_}
 use native.Mathlib.Omega.{arith}
 use Rattle.refusal.specs.Tests.{horizon}
 use Rattle.calendar_buckets.specs.Lists.{Live, listOf, rankOf, Front}
-use Rattle.calendar_buckets.specs.Table.{dueOf, bucketOf, nextOf, prevOf}
+use Rattle.calendar_buckets.specs.Table.{dueOf, bucketOf, nextPlace, prevPlace}
 use Rattle.calendar_buckets.specs.Steps.{Chained, Place}
 use Rattle.calendar_buckets.proofs.Places.{list-station, list-head, rank-head}
 
@@ -23,21 +23,21 @@ way-start xs list k h C =
     ((λ l. absurd (omega arith)), list-head (bucketOf xs) (256 + list) (omega arith) ∙ omega arith, omega arith, sym e)
 
 -- what a link that is not 0 leads to
-ahead : (xs : List ℕ) (p n : ℕ) → Chained xs → p < 4608 → Live (dueOf xs) p → n ≡ nextOf xs p → (n ≡ 0 → ⊥) → Front (dueOf xs) (prevOf xs) p (n - 1)
+ahead : (xs : List ℕ) (p n : ℕ) → Chained xs → p < 4608 → Live (dueOf xs) p → n ≡ nextPlace xs p → (n ≡ 0 → ⊥) → Front (dueOf xs) (prevPlace xs) p (n - 1)
 ahead xs p n C l r e z = let e′ : n ≡ suc (n - 1) = omega arith in C .lists .front p l r (n - 1) (sym e ∙ e′)
 
-pub way-end : (xs : List ℕ) (list k p last n : ℕ) → Way xs list k p last → n ≡ nextOf xs p → n ≡ 0 → Found xs list k p
+pub way-end : (xs : List ℕ) (list k p last n : ℕ) → Way xs list k p last → n ≡ nextPlace xs p → n ≡ 0 → Found xs list k p
 way-end xs list k p last n W e z C =
     let w = W C in
     record { live = w .0; list-is = w .1; below = w .2; beyond = λ m q. absurd (omega arith) }
 
-pub way-out : (xs : List ℕ) (list k p last n : ℕ) → Way xs list k p last → p < 4608 → n ≡ nextOf xs p → 256 < n → Found xs list k p
+pub way-out : (xs : List ℕ) (list k p last n : ℕ) → Way xs list k p last → p < 4608 → n ≡ nextPlace xs p → 256 < n → Found xs list k p
 way-out xs list k p last n W lp e z C =
     let w = W C in
     absurd (omega (arith, ahead xs p n C lp (w .0) e (omega arith) .station))
 
 module _
-    (xs : List ℕ) (list k p last n kn : ℕ) (W : Way xs list k p last) (lp : p < 4608) (e : n ≡ nextOf xs p) (nz : n ≡ 0 → ⊥)
+    (xs : List ℕ) (list k p last n kn : ℕ) (W : Way xs list k p last) (lp : p < 4608) (e : n ≡ nextPlace xs p) (nz : n ≡ 0 → ⊥)
     (rank : dueOf xs (n - 1) ≤ suc horizon → kn ≡ rankOf (dueOf xs) (n - 1))
   where
     pub way-bad : kn ≤ last → Found xs list k p

@@ -5,14 +5,14 @@ use mathlib.Core.List.{List}
 use Prim.Native.Nat.{ℕ, suc, _+_, _-_, _*_, _/_, _%_, _≤_, _<_}
 use native.Mathlib.Omega.{arith}
 use Rattle.calendar_bitmap.specs.Child.{child, FirstChild}
-use Rattle.calendar_buckets.specs.Table.{bucketOf, nodeOf, rootOf, headOf, turnsTo, Due, Table, NotAfter, First}
+use Rattle.calendar_buckets.specs.Table.{bucketOf, nodeOf, rootOf, bucketHead, turnsTo, Due, Table, NotAfter, First}
 use Rattle.calendar_buckets.specs.Steps.{FirstLeaf, HeadOf}
 use Rattle.words.proofs.Cases.{eq-or, lt-or}
 use Rattle.calendar_buckets.proofs.TreeLaws.{set-above, some-above, some-below}
 use Rattle.calendar_buckets.proofs.Heads.{head-some}
 
 abbrev pub Filled : List ℕ → ℕ → Type 0
-Filled xs k = headOf xs k ≡ 0 → ⊥
+Filled xs k = bucketHead xs k ≡ 0 → ⊥
 
 -- no filled leaf lies in the first i blocks from the slot
 abbrev pub Passed : List ℕ → ℕ → ℕ → Type 0
@@ -35,10 +35,10 @@ turns-in slot i k ls li lk e = omega arith
 module _ (xs : List ℕ) (T : Table xs) where
   -- the bits above a filled leaf
   node-above : (k : ℕ) → k < 4352 → Filled xs k → nodeOf xs (k / 16) ≡ 0 → ⊥
-  node-above k l f = some-above 16 4352 (nodeOf xs) (headOf xs) k (T .tree .leaves) l f
+  node-above k l f = some-above 16 4352 (nodeOf xs) (bucketHead xs) k (T .tree .leaves) l f
 
   node-bit : (k : ℕ) → k < 4352 → Filled xs k → child 16 (nodeOf xs (k / 16)) (k % 16) ≡ 1
-  node-bit k l f = set-above 16 4352 (nodeOf xs) (headOf xs) k (T .tree .leaves) l f
+  node-bit k l f = set-above 16 4352 (nodeOf xs) (bucketHead xs) k (T .tree .leaves) l f
 
   root-above : (k : ℕ) → k < 4352 → Filled xs k → rootOf xs (k / 16 / 16) ≡ 0 → ⊥
   root-above k l f = some-above 16 272 (rootOf xs) (nodeOf xs) (k / 16) (T .tree .nodes) (omega arith) (node-above k l f)
@@ -122,7 +122,7 @@ module _ (xs : List ℕ) (T : Table xs) where
       pub pass-stop : FirstLeaf xs slot (((slot + i) % 16 * 16 + f) * 16 + g)
       pass-stop = record {
         filled = λ _.
-            some-below 16 4352 (nodeOf xs) (headOf xs) (((slot + i) % 16 * 16 + f) * 16 + g) (T .tree .leaves) (let h = l-lt in omega arith)
+            some-below 16 4352 (nodeOf xs) (bucketHead xs) (((slot + i) % 16 * 16 + f) * 16 + g) (T .tree .leaves) (let h = l-lt in omega arith)
             (ap (λ (m : ℕ). child 16 (nodeOf xs m) ((((slot + i) % 16 * 16 + f) * 16 + g) % 16)) l-div ∙ ap (child 16 (nodeOf xs ((slot + i) % 16 * 16 + f))) l-mod
             ∙ ap (λ (m : ℕ). child 16 m g) (sym ey) ∙ G .set lg);
         first = λ k l fk. (l-lt, go k l fk (eq-or (k / 256) ((slot + i) % 16)));

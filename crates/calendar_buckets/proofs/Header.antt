@@ -7,7 +7,7 @@ use lib.ListN.{length}
 use Rattle.calendar_buckets.specs.Cells.{putWord, halfAt}
 use Rattle.calendar_buckets.specs.Lists.{Lists}
 use Rattle.calendar_buckets.specs.Tree.{Tree}
-use Rattle.calendar_buckets.specs.Table.{dueOf, bucketOf, nextOf, prevOf, Table}
+use Rattle.calendar_buckets.specs.Table.{dueOf, bucketOf, nextPlace, prevPlace, Table}
 use Rattle.calendar_buckets.proofs.CellLaws.{length-word, word-other, half-word}
 
 -- a table is told by its dues and its half words
@@ -18,7 +18,7 @@ table-same xs ys size dues halves T = record {
   until = λ x l. rw (dues x) (T .until x l);
   within = λ x l r. rw (halves (4865 + x)) (T .within x l (λ z. r (dues x ∙ z)));
   own = λ x l r h. halves (4865 + x) ∙ T .own x l (λ z. r (dues x ∙ z)) (subst (λ (y : ℕ). 4096 ≤ y) (halves (4865 + x)) h);
-  lists = subst (λ (f : ℕ → ℕ). Lists 4608 (bucketOf ys) f (nextOf ys) (prevOf ys)) (fun-ext (λ x. sym (dues x)))
+  lists = subst (λ (f : ℕ → ℕ). Lists 4608 (bucketOf ys) f (nextPlace ys) (prevPlace ys)) (fun-ext (λ x. sym (dues x)))
       (subst (λ (f : ℕ → ℕ). Lists 4608 (λ (x : ℕ). f (4865 + x)) (dueOf xs) f (λ (x : ℕ). f (4609 + x))) (fun-ext (λ k. sym (halves k))) (T .lists));
   tree = subst (λ (f : ℕ → ℕ). Tree 16 17 (λ (l : ℕ). f (256 + l)) (λ (j : ℕ). f (5121 + j)) (λ (r : ℕ). f (5393 + r))) (fun-ext (λ k. sym (halves k))) (T .tree);
 }

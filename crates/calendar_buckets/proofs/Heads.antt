@@ -4,48 +4,48 @@ use mathlib.Core.List.{List}
 use Prim.Native.Nat.{ℕ, suc, _+_, _-_, _≤_, _<_}
 use native.Mathlib.Omega.{arith}
 use Rattle.calendar_buckets.specs.Lists.{rankOf}
-use Rattle.calendar_buckets.specs.Table.{dueOf, bucketOf, nextOf, prevOf, headOf, Due, Table, Waits}
+use Rattle.calendar_buckets.specs.Table.{dueOf, bucketOf, nextPlace, prevPlace, bucketHead, Due, Table, Waits}
 use Rattle.calendar_buckets.specs.Steps.{HeadOf}
 use Rattle.calendar_buckets.proofs.ListHead.{head-least, head-list}
 
 module _ (xs : List ℕ) (T : Table xs) where
   -- what a head leads to
-  pub head-station : (l h : ℕ) → l < 4352 → headOf xs l ≡ suc h → (h < 256) × (Due xs h) × (bucketOf xs h ≡ l)
-  head-station l h ll e = head-list 4608 (bucketOf xs) (dueOf xs) (nextOf xs) (prevOf xs) (T .lists) l h (omega arith) e
+  pub head-station : (l h : ℕ) → l < 4352 → bucketHead xs l ≡ suc h → (h < 256) × (Due xs h) × (bucketOf xs h ≡ l)
+  head-station l h ll e = head-list 4608 (bucketOf xs) (dueOf xs) (nextPlace xs) (prevPlace xs) (T .lists) l h (omega arith) e
 
   -- the bucket of a registered station has a head, which is not above it
-  pub head-below : (x : ℕ) → x < 256 → Due xs x → (h : ℕ) × (headOf xs (bucketOf xs x) ≡ suc h) × (rankOf (dueOf xs) h ≤ rankOf (dueOf xs) x)
-  head-below x lx r = head-least 4608 (bucketOf xs) (dueOf xs) (nextOf xs) (prevOf xs) (T .lists) x lx r
+  pub head-below : (x : ℕ) → x < 256 → Due xs x → (h : ℕ) × (bucketHead xs (bucketOf xs x) ≡ suc h) × (rankOf (dueOf xs) h ≤ rankOf (dueOf xs) x)
+  head-below x lx r = head-least 4608 (bucketOf xs) (dueOf xs) (nextPlace xs) (prevPlace xs) (T .lists) x lx r
 
-  pub head-some : (x : ℕ) → x < 256 → Due xs x → headOf xs (bucketOf xs x) ≡ 0 → ⊥
+  pub head-some : (x : ℕ) → x < 256 → Due xs x → bucketHead xs (bucketOf xs x) ≡ 0 → ⊥
   head-some x lx r z = let H = head-below x lx r in let e : suc (H .0) ≡ 0 = sym (H .1) ∙ z in omega arith
 
-  pub head-of : (l r : ℕ) → l < 4352 → r ≡ headOf xs l → HeadOf xs l r
+  pub head-of : (l r : ℕ) → l < 4352 → r ≡ bucketHead xs l → HeadOf xs l r
   head-of l r ll e = record {
     is = e;
     station = λ h q. head-station l h ll (sym e ∙ q);
     least = λ h q x lx d b.
         let H = head-below x lx d in
-        let k : suc (H .0) ≡ suc h = sym (H .1) ∙ ap (headOf xs) b ∙ sym e ∙ q in
+        let k : suc (H .0) ≡ suc h = sym (H .1) ∙ ap (bucketHead xs) b ∙ sym e ∙ q in
         let m : H .0 ≡ h = omega arith in
         subst (λ (y : ℕ). rankOf (dueOf xs) y ≤ rankOf (dueOf xs) x) m (H .2);
   }
 
   -- no head is beyond the stations
-  pub head-within : (l r : ℕ) → l < 4352 → r ≡ headOf xs l → 256 < r → ⊥
+  pub head-within : (l r : ℕ) → l < 4352 → r ≡ bucketHead xs l → 256 < r → ⊥
   head-within l r ll e h =
-      let q : headOf xs l ≡ suc (r - 1) = sym e ∙ omega arith in
+      let q : bucketHead xs l ≡ suc (r - 1) = sym e ∙ omega arith in
       omega (arith, head-station l (r - 1) ll q .0)
 
   -- ---- the overflow table
 
-  pub waits-head : (x : ℕ) → x < 256 → Waits xs x → headOf xs (4096 + x) ≡ 0 → ⊥
-  waits-head x lx w z = head-some x lx (w .0) (ap (headOf xs) (w .1) ∙ z)
+  pub waits-head : (x : ℕ) → x < 256 → Waits xs x → bucketHead xs (4096 + x) ≡ 0 → ⊥
+  waits-head x lx w z = head-some x lx (w .0) (ap (bucketHead xs) (w .1) ∙ z)
 
-  pub head-waits : (x : ℕ) → x < 256 → (headOf xs (4096 + x) ≡ 0 → ⊥) → Waits xs x
+  pub head-waits : (x : ℕ) → x < 256 → (bucketHead xs (4096 + x) ≡ 0 → ⊥) → Waits xs x
   head-waits x lx ne =
-      let e : headOf xs (4096 + x) ≡ suc (headOf xs (4096 + x) - 1) = omega arith in
-      let S = head-station (4096 + x) (headOf xs (4096 + x) - 1) (omega arith) e in
-      let o : bucketOf xs (headOf xs (4096 + x) - 1) ≡ 4096 + (headOf xs (4096 + x) - 1) = T .own (headOf xs (4096 + x) - 1) (S .0) (S .1) (omega (arith, S .2)) in
-      let q : headOf xs (4096 + x) - 1 ≡ x = omega (arith, S .2) in
+      let e : bucketHead xs (4096 + x) ≡ suc (bucketHead xs (4096 + x) - 1) = omega arith in
+      let S = head-station (4096 + x) (bucketHead xs (4096 + x) - 1) (omega arith) e in
+      let o : bucketOf xs (bucketHead xs (4096 + x) - 1) ≡ 4096 + (bucketHead xs (4096 + x) - 1) = T .own (bucketHead xs (4096 + x) - 1) (S .0) (S .1) (omega (arith, S .2)) in
+      let q : bucketHead xs (4096 + x) - 1 ≡ x = omega (arith, S .2) in
       subst (λ (y : ℕ). Waits xs y) q (S .1, o)

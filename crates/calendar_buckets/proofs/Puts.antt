@@ -7,7 +7,7 @@ use native.Mathlib.Omega.{arith}
 use lib.ListN.{length}
 use Rattle.refusal.specs.Tests.{horizon}
 use Rattle.calendar_buckets.specs.Cells.{wordAt, halfAt, putWord, putHalf}
-use Rattle.calendar_buckets.specs.Table.{dueOf, bucketOf, nextOf, prevOf, headOf, Table, Kept, Gone, Placed}
+use Rattle.calendar_buckets.specs.Table.{dueOf, bucketOf, nextPlace, prevPlace, bucketHead, Table, Kept, Gone, Placed}
 use Rattle.calendar_buckets.specs.Steps.{Place, Joined, Raised}
 use Rattle.calendar_buckets.proofs.CellLaws.{length-word, length-half, word-same, word-other, word-half, half-same, half-other, half-word}
 use Rattle.calendar_buckets.proofs.Places.{list-station, list-head}
@@ -32,7 +32,7 @@ module _
 
     module _
         (T : Table xs) (ed : dueOf xs s ≡ 0) (pd : 0 < d) (md : d ≤ suc horizon) (ll : list < 4352) (lo : 4096 ≤ list → list ≡ 4096 + s)
-        (lp : p < 4608) (P : Place xs list (d * 256 + s) p) (en : n ≡ nextOf xs p)
+        (lp : p < 4608) (P : Place xs list (d * 256 + s) p) (en : n ≡ nextPlace xs p)
       where
         long-y : 12932 ≤ length ys
         long-y = rw (ey, length-word) (T .long)
@@ -68,33 +68,33 @@ module _
         in-rest : (k : ℕ) → (k ≡ p → ⊥) → (k ≡ s → ⊥) → (k ≡ 4609 + s → ⊥) → (k ≡ 4608 + n → ⊥) → halfAt k vs ≡ halfAt k zs
         in-rest k a b c f = K .others k a (λ e. c (omega arith)) ∙ J .others k b f
 
-        in-next-p : nextOf ws p ≡ suc s
+        in-next-p : nextPlace ws p ≡ suc s
         in-next-p = R .links p (omega arith) ∙ K .next long-u lp (omega arith)
 
-        in-next-s : nextOf ws s ≡ nextOf xs p
+        in-next-s : nextPlace ws s ≡ nextPlace xs p
         in-next-s =
             R .links s (omega arith) ∙ K .others s apart (omega arith) ∙ J .next long-z (omega arith) ln ∙ en
 
-        in-next-o : (q : ℕ) → q < 4608 → (q ≡ s → ⊥) → (q ≡ p → ⊥) → nextOf ws q ≡ nextOf xs q
+        in-next-o : (q : ℕ) → q < 4608 → (q ≡ s → ⊥) → (q ≡ p → ⊥) → nextPlace ws q ≡ nextPlace xs q
         in-next-o q l a b = R .links q (omega arith) ∙ in-rest q b a (omega arith) (omega arith) ∙ half-z q (omega arith)
 
-        in-prev-s : prevOf ws s ≡ p
+        in-prev-s : prevPlace ws s ≡ p
         in-prev-s =
             let k : 4609 + s ≡ 4608 + suc s = omega arith in
             R .links (4609 + s) (omega arith) ∙ ap (λ (y : ℕ). halfAt y vs) k ∙ K .prev long-u lp (omega arith)
 
         -- the station after p was there before
-        in-after : (m : ℕ) → nextOf xs p ≡ suc m → m ≡ s → ⊥
+        in-after : (m : ℕ) → nextPlace xs p ≡ suc m → m ≡ s → ⊥
         in-after m e z = T .lists .front p lp (P .live) m e .live (ap (dueOf xs) z ∙ ed)
 
-        in-prev-n : (m : ℕ) → m < 256 → nextOf xs p ≡ suc m → prevOf ws m ≡ s
+        in-prev-n : (m : ℕ) → m < 256 → nextPlace xs p ≡ suc m → prevPlace ws m ≡ s
         in-prev-n m l e =
             let ne : m ≡ s → ⊥ = in-after m e in
             let k : 4609 + m ≡ 4608 + n = omega (arith, en, e) in
             R .links (4609 + m) (omega arith) ∙ K .others (4609 + m) (omega arith) (λ z. ne (omega arith)) ∙ ap (λ (y : ℕ). halfAt y us) k
             ∙ J .prev long-z (omega arith) ln
 
-        in-prev-o : (m : ℕ) → m < 256 → (m ≡ s → ⊥) → (nextOf xs p ≡ suc m → ⊥) → prevOf ws m ≡ prevOf xs m
+        in-prev-o : (m : ℕ) → m < 256 → (m ≡ s → ⊥) → (nextPlace xs p ≡ suc m → ⊥) → prevPlace ws m ≡ prevPlace xs m
         in-prev-o m l a b =
             R .links (4609 + m) (omega arith)
             ∙ in-rest (4609 + m) (omega arith) (omega arith) (λ e. a (omega arith)) (λ e. let k : n ≡ suc m = omega arith in b (sym en ∙ k))
@@ -111,7 +111,7 @@ module _
         in-bucket : (x : ℕ) → x < 256 → (x ≡ s → ⊥) → bucketOf ws x ≡ bucketOf xs x
         in-bucket x l ne = in-bucket-k (4865 + x) (omega arith) (omega arith) ∙ half-z (4865 + x) (omega arith)
 
-        in-head : (l : ℕ) → l < 4352 → (l ≡ list → ⊥) → headOf vs l ≡ headOf xs l
+        in-head : (l : ℕ) → l < 4352 → (l ≡ list → ⊥) → bucketHead vs l ≡ bucketHead xs l
         in-head l h ne = in-rest (256 + l) hit (omega arith) (omega arith) (omega arith) ∙ half-z (256 + l) (omega arith)
           where
             hit : 256 + l ≡ p → ⊥
@@ -121,20 +121,20 @@ module _
                 ne (omega arith)
 
         -- the bucket's head leads to the station, or to what it led to before
-        in-filled : headOf vs list ≡ 0 → ⊥
+        in-filled : bucketHead vs list ≡ 0 → ⊥
         in-filled z = go (lt-or p 256)
           where
-            same : p < 256 → headOf vs list ≡ headOf xs list
+            same : p < 256 → bucketHead vs list ≡ bucketHead xs list
             same h = in-rest (256 + list) (omega arith) (omega arith) (omega arith) (omega arith) ∙ half-z (256 + list) (omega arith)
 
             go : (p < 256) ⊎ (256 ≤ p) → ⊥
             go (inl h) =
                 let e : bucketOf xs p ≡ list = sym (list-station (bucketOf xs) p h) ∙ P .list-is in
-                head-some xs T p h (P .live h) (ap (headOf xs) e ∙ sym (same h) ∙ z)
+                head-some xs T p h (P .live h) (ap (bucketHead xs) e ∙ sym (same h) ∙ z)
             go (inr h) =
                 let a : p - 256 ≡ list = sym (list-head (bucketOf xs) p h) ∙ P .list-is in
                 let e : 256 + list ≡ p = omega arith in
-                let n : suc s ≡ 0 = sym (K .next long-u lp (omega arith)) ∙ ap (nextOf vs) (sym e) ∙ z in
+                let n : suc s ≡ 0 = sym (K .next long-u lp (omega arith)) ∙ ap (nextPlace vs) (sym e) ∙ z in
                 omega arith
 
         bits : (k : ℕ) → 5121 ≤ k → halfAt k vs ≡ halfAt k xs
@@ -145,10 +145,10 @@ module _
           changed =
               changed xs ws T s d in-size in-this in-due in-bucket md
               (λ _. (rw in-bucket-s ll, λ h. in-bucket-s ∙ lo (subst (λ (y : ℕ). 4096 ≤ y) in-bucket-s h)))
-              (lists-in 4608 (omega arith) (bucketOf xs) (dueOf xs) (nextOf xs) (prevOf xs) (bucketOf ws) (dueOf ws) (nextOf ws) (prevOf ws) s d p list
+              (lists-in 4608 (omega arith) (bucketOf xs) (dueOf xs) (nextPlace xs) (prevPlace xs) (bucketOf ws) (dueOf ws) (nextPlace ws) (prevPlace ws) s d p list
               ls ed (λ z. omega arith) lp (P .live) (P .list-is) (P .below) (P .beyond) in-bucket-s in-bucket
               in-this in-due in-next-s in-next-p in-next-o in-prev-s in-prev-n in-prev-o (T .lists))
-              (R .tree long-v ll (headOf xs) in-filled in-head (tree-same (headOf xs) xs vs bits (T .tree)));
+              (R .tree long-v ll (bucketHead xs) in-filled in-head (tree-same (bucketHead xs) xs vs bits (T .tree)));
           due-is = in-this;
           bucket-is = in-bucket-s;
         }

@@ -13,19 +13,19 @@ use Rattle.calendar_bitmap.specs.Child.{child, WithChild}
 use Rattle.calendar_bitmap.proofs.ChildLaws.{child-zero}
 use Rattle.calendar_buckets.specs.Cells.{wordAt, halfAt, putHalf}
 use Rattle.calendar_buckets.specs.Tree.{Sums}
-use Rattle.calendar_buckets.specs.Table.{nodeOf, rootOf, headOf}
+use Rattle.calendar_buckets.specs.Table.{nodeOf, rootOf, bucketHead}
 use Rattle.calendar_buckets.specs.Steps.{Refreshed, Raised, Lowered}
 use Rattle.calendar_buckets.proofs.CellLaws.{length-half, word-half, half-same, half-other}
 use Rattle.calendar_buckets.proofs.TreeLaws.{sums-set, sums-same, sums-filled, some-above}
 
 -- the bucket was filled and is filled: its bits are set already
-pub lower-nothing : (list : ℕ) (xs : List ℕ) → (headOf xs list ≡ 0 → ⊥) → Lowered list xs xs
+pub lower-nothing : (list : ℕ) (xs : List ℕ) → (bucketHead xs list ≡ 0 → ⊥) → Lowered list xs xs
 lower-nothing list xs f = record {
   size = refl;
   words = λ i l. refl;
   links = λ k l. refl;
   tree = λ _ _ head was same T. record {
-    leaves = sums-filled 16 4352 (nodeOf xs) head (nodeOf xs) (headOf xs) list was f (λ k l. refl) same (T .leaves);
+    leaves = sums-filled 16 4352 (nodeOf xs) head (nodeOf xs) (bucketHead xs) list was f (λ k l. refl) same (T .leaves);
     nodes = T .nodes;
   };
 }
@@ -49,10 +49,10 @@ module _
       y-this = ap (halfAt (5121 + list / 16)) ey ∙ half-same (5121 + list / 16) y xs (omega arith) long (Y .fits)
 
       -- the bits of the nodes are right where the one that is written says whether the bucket is empty
-      y-leaves : on ≡ ltb 0 (headOf xs list) → (head : ℕ → ℕ) → ((k : ℕ) → k < 4352 → (k ≡ list → ⊥) → headOf xs k ≡ head k)
-          → Sums 16 4352 (nodeOf xs) head → Sums 16 4352 (nodeOf ys) (headOf ys)
+      y-leaves : on ≡ ltb 0 (bucketHead xs list) → (head : ℕ → ℕ) → ((k : ℕ) → k < 4352 → (k ≡ list → ⊥) → bucketHead xs k ≡ head k)
+          → Sums 16 4352 (nodeOf xs) head → Sums 16 4352 (nodeOf ys) (bucketHead ys)
       y-leaves e head same S =
-          sums-set 16 4352 (nodeOf xs) head (nodeOf ys) (headOf ys) list (lit< tt)
+          sums-set 16 4352 (nodeOf xs) head (nodeOf ys) (bucketHead ys) list (lit< tt)
           (rw (y-this, y-other (256 + list) (omega arith)) (subst (λ (b : Bool). WithChild 16 (nodeOf xs (list / 16)) (list % 16) b y) e Y))
           (λ k lk ne. y-other (5121 + k / 16) (λ q. ne (omega arith)))
           (λ k lk ne. y-other (256 + k) (omega arith) ∙ same k lk ne)
@@ -84,13 +84,13 @@ module _
               (λ k lk ne. z-other (5121 + k) (omega arith) ∙ y-other (5121 + k) (omega arith))
               S
 
-          z-leaves : Sums 16 4352 (nodeOf ys) (headOf ys) → Sums 16 4352 (nodeOf zs) (headOf zs)
+          z-leaves : Sums 16 4352 (nodeOf ys) (bucketHead ys) → Sums 16 4352 (nodeOf zs) (bucketHead zs)
           z-leaves S =
-              sums-same 16 4352 (nodeOf ys) (headOf ys) (nodeOf zs) (headOf zs) (λ k lk. z-other (5121 + k / 16) (omega arith))
+              sums-same 16 4352 (nodeOf ys) (bucketHead ys) (nodeOf zs) (bucketHead zs) (λ k lk. z-other (5121 + k / 16) (omega arith))
               (λ k lk. z-other (256 + k) (omega arith)) S
 
         -- both bits say whether the bucket is empty
-        two-bits : (when : (ℕ → ℕ) → Type 0) → ((head : ℕ → ℕ) → when head → (on ≡ ltb 0 (headOf xs list)) × (on ≡ ltb 0 y)) → Refreshed when list xs zs
+        two-bits : (when : (ℕ → ℕ) → Type 0) → ((head : ℕ → ℕ) → when head → (on ≡ ltb 0 (bucketHead xs list)) × (on ≡ ltb 0 y)) → Refreshed when list xs zs
         two-bits when right = record {
           size = ap length ez ∙ length-half (5393 + list / 256) x ys ∙ y-size;
           words = λ i h. ap (wordAt i) ez ∙ word-half (5393 + list / 256) x ys i h ∙ y-word i h;
@@ -118,16 +118,16 @@ module _
 
     pub raise-done : Raised list xs zs
     raise-done =
-        two-bits list xs ys true y l ey Y zs x ez X (λ _. headOf xs list ≡ 0 → ⊥)
-        (λ head f. (sym (lt-ltb 0 (headOf xs list) (omega arith)), sym (lt-ltb 0 y some)))
+        two-bits list xs ys true y l ey Y zs x ez X (λ _. bucketHead xs list ≡ 0 → ⊥)
+        (λ head f. (sym (lt-ltb 0 (bucketHead xs list) (omega arith)), sym (lt-ltb 0 y some)))
 
 -- the bucket was filled and is empty: its node's bit is clear, and the root's where the node is 0 then
 module _
-    (list : ℕ) (xs ys : List ℕ) (y : ℕ) (l : list < 4352) (e : headOf xs list ≡ 0) (ey : ys ≡ putHalf (5121 + list / 16) y xs)
+    (list : ℕ) (xs ys : List ℕ) (y : ℕ) (l : list < 4352) (e : bucketHead xs list ≡ 0) (ey : ys ≡ putHalf (5121 + list / 16) y xs)
     (Y : WithChild 16 (halfAt (5121 + list / 16) xs) (list % 16) false y)
   where
-    empty : false ≡ ltb 0 (headOf xs list)
-    empty = sym (le-ltb 0 (headOf xs list) (omega arith))
+    empty : false ≡ ltb 0 (bucketHead xs list)
+    empty = sym (le-ltb 0 (bucketHead xs list) (omega arith))
 
     -- the node was not 0 and is not: its bit is set already
     pub lower-one : (y ≡ 0 → ⊥) → Lowered list xs ys

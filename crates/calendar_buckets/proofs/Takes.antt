@@ -7,7 +7,7 @@ use native.Mathlib.Omega.{arith}
 use lib.ListN.{length}
 use Rattle.calendar_buckets.specs.Cells.{wordAt, halfAt, putWord}
 use Rattle.calendar_buckets.specs.Lists.{Back}
-use Rattle.calendar_buckets.specs.Table.{dueOf, bucketOf, nextOf, prevOf, headOf, Due, Table, Kept, Gone}
+use Rattle.calendar_buckets.specs.Table.{dueOf, bucketOf, nextPlace, prevPlace, bucketHead, Due, Table, Kept, Gone}
 use Rattle.calendar_buckets.specs.Steps.{Joined, Lowered}
 use Rattle.calendar_buckets.proofs.CellLaws.{length-word, word-same, word-other, half-word}
 use Rattle.calendar_buckets.proofs.Places.{list-head, lists-at}
@@ -24,7 +24,7 @@ take-kept s v p n list xs ys zs us ey J R = record {
 
 module _
     (xs ys zs us : List ℕ) (T : Table xs) (s p n list : ℕ) (ls : s < 256) (reg : Due xs s)
-    (ep : p ≡ prevOf xs s) (en : n ≡ nextOf xs s) (el : list ≡ bucketOf xs s)
+    (ep : p ≡ prevPlace xs s) (en : n ≡ nextPlace xs s) (el : list ≡ bucketOf xs s)
     (ey : ys ≡ putWord (8 + s) 0 xs) (J : Joined p n ys zs) (R : Lowered list zs us)
   where
     long-y : 12932 ≤ length ys
@@ -33,7 +33,7 @@ module _
     long-z : 12932 ≤ length zs
     long-z = rw (J .size) long-y
 
-    B : Back 4608 (bucketOf xs) (dueOf xs) (nextOf xs) (prevOf xs s) s
+    B : Back 4608 (bucketOf xs) (dueOf xs) (nextPlace xs) (prevPlace xs s) s
     B = T .lists .back s ls reg
 
     lp : p < 4608
@@ -59,18 +59,18 @@ module _
     half-y : (k : ℕ) → halfAt k ys ≡ halfAt k xs
     half-y k = ap (halfAt k) ey ∙ half-word (8 + s) 0 xs k (omega arith)
 
-    out-next : nextOf us (prevOf xs s) ≡ nextOf xs s
-    out-next = ap (nextOf us) (sym ep) ∙ R .links p (omega (arith, lp)) ∙ J .next long-y lp ln ∙ en
+    out-next : nextPlace us (prevPlace xs s) ≡ nextPlace xs s
+    out-next = ap (nextPlace us) (sym ep) ∙ R .links p (omega (arith, lp)) ∙ J .next long-y lp ln ∙ en
 
-    out-next-o : (q : ℕ) → q < 4608 → (q ≡ prevOf xs s → ⊥) → nextOf us q ≡ nextOf xs q
+    out-next-o : (q : ℕ) → q < 4608 → (q ≡ prevPlace xs s → ⊥) → nextPlace us q ≡ nextPlace xs q
     out-next-o q l ne = R .links q (omega arith) ∙ J .others q (λ e. ne (e ∙ ep)) (omega arith) ∙ half-y q
 
-    out-prev : (m : ℕ) → m < 256 → nextOf xs s ≡ suc m → prevOf us m ≡ prevOf xs s
+    out-prev : (m : ℕ) → m < 256 → nextPlace xs s ≡ suc m → prevPlace us m ≡ prevPlace xs s
     out-prev m l e =
         let k : 4609 + m ≡ 4608 + n = omega (arith, en, e) in
         R .links (4609 + m) (omega arith) ∙ ap (λ (y : ℕ). halfAt y zs) k ∙ J .prev long-y lp ln ∙ ep
 
-    out-prev-o : (m : ℕ) → m < 256 → (nextOf xs s ≡ suc m → ⊥) → prevOf us m ≡ prevOf xs m
+    out-prev-o : (m : ℕ) → m < 256 → (nextPlace xs s ≡ suc m → ⊥) → prevPlace us m ≡ prevPlace xs m
     out-prev-o m l ne =
         R .links (4609 + m) (omega arith)
         ∙ J .others (4609 + m) (omega (arith, lp)) (λ f. let k : n ≡ suc m = omega arith in ne (sym en ∙ k)) ∙ half-y (4609 + m)
@@ -79,17 +79,17 @@ module _
     out-bucket x l = R .links (4865 + x) (omega arith) ∙ J .others (4865 + x) (omega (arith, lp)) (omega (arith, ln)) ∙ half-y (4865 + x)
 
     -- the head of a bucket other than the station's own is not touched
-    out-head : (l : ℕ) → l < 4352 → (l ≡ list → ⊥) → headOf zs l ≡ headOf xs l
+    out-head : (l : ℕ) → l < 4352 → (l ≡ list → ⊥) → bucketHead zs l ≡ bucketHead xs l
     out-head l h ne = J .others (256 + l) hit (omega arith) ∙ half-y (256 + l)
       where
         hit : 256 + l ≡ p → ⊥
         hit e =
-            let q : 256 ≤ prevOf xs s = omega (arith, ep) in
-            let a : prevOf xs s - 256 ≡ bucketOf xs s = sym (list-head (bucketOf xs) (prevOf xs s) q) ∙ B .list in
+            let q : 256 ≤ prevPlace xs s = omega (arith, ep) in
+            let a : prevPlace xs s - 256 ≡ bucketOf xs s = sym (list-head (bucketOf xs) (prevPlace xs s) q) ∙ B .list in
             ne (omega (arith, ep, a ∙ sym el))
 
     -- the station stood in its bucket
-    filled : headOf xs list ≡ 0 → ⊥
+    filled : bucketHead xs list ≡ 0 → ⊥
     filled = rw el (head-some xs T s ls reg)
 
     bits : (k : ℕ) → 5121 ≤ k → halfAt k zs ≡ halfAt k xs
@@ -100,10 +100,10 @@ module _
       changed =
           changed xs us T s 0 (R .size ∙ J .size ∙ ap length ey ∙ length-word (8 + s) 0 xs) out-this out-due (λ x l ne. out-bucket x l) (omega arith)
           (λ ne. absurd (ne refl))
-          (lists-at 4608 (bucketOf xs) (bucketOf us) (dueOf us) (nextOf us) (prevOf us) (λ x l r. out-bucket x l)
-          (lists-out 4608 (omega arith) (bucketOf xs) (dueOf xs) (nextOf xs) (prevOf xs) (dueOf us) (nextOf us) (prevOf us) s ls reg
+          (lists-at 4608 (bucketOf xs) (bucketOf us) (dueOf us) (nextPlace us) (prevPlace us) (λ x l r. out-bucket x l)
+          (lists-out 4608 (omega arith) (bucketOf xs) (dueOf xs) (nextPlace xs) (prevPlace xs) (dueOf us) (nextPlace us) (prevPlace us) s ls reg
           out-this out-due out-next out-next-o out-prev out-prev-o (T .lists)))
-          (R .tree long-z ll (headOf xs) filled out-head (tree-same (headOf xs) xs zs bits (T .tree)));
+          (R .tree long-z ll (bucketHead xs) filled out-head (tree-same (bucketHead xs) xs zs bits (T .tree)));
       due-is = out-this;
     }
 

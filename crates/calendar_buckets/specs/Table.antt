@@ -25,11 +25,11 @@ Due xs s = dueOf xs s ≡ 0 → ⊥
 
 -- ---- links and bits
 
-abbrev pub nextOf : List ℕ → ℕ → ℕ
-nextOf xs p = halfAt p xs
+abbrev pub nextPlace : List ℕ → ℕ → ℕ
+nextPlace xs p = halfAt p xs
 
-abbrev pub prevOf : List ℕ → ℕ → ℕ
-prevOf xs s = halfAt (4609 + s) xs
+abbrev pub prevPlace : List ℕ → ℕ → ℕ
+prevPlace xs s = halfAt (4609 + s) xs
 
 abbrev pub nodeOf : List ℕ → ℕ → ℕ
 nodeOf xs j = halfAt (5121 + j) xs
@@ -38,8 +38,8 @@ abbrev pub rootOf : List ℕ → ℕ → ℕ
 rootOf xs r = halfAt (5393 + r) xs
 
 -- the head of a bucket: its first station + 1, or 0
-abbrev pub headOf : List ℕ → ℕ → ℕ
-headOf xs l = nextOf xs (256 + l)
+abbrev pub bucketHead : List ℕ → ℕ → ℕ
+bucketHead xs l = nextPlace xs (256 + l)
 
 -- the bytes are a table
 pub record Table (xs : List ℕ) : Type 0 where
@@ -48,9 +48,9 @@ pub record Table (xs : List ℕ) : Type 0 where
   pub within : (x : ℕ) → x < 256 → Due xs x → bucketOf xs x < 4352
   -- a bucket of the overflow table is its station's own
   pub own : (x : ℕ) → x < 256 → Due xs x → 4096 ≤ bucketOf xs x → bucketOf xs x ≡ 4096 + x
-  pub lists : Lists 4608 (bucketOf xs) (dueOf xs) (nextOf xs) (prevOf xs)
+  pub lists : Lists 4608 (bucketOf xs) (dueOf xs) (nextPlace xs) (prevPlace xs)
   -- the 17 groups are the ring's 16 blocks and the overflow table; each stands under the paper's 17 words, 16 nodes and a root
-  pub tree : Tree 16 17 (headOf xs) (nodeOf xs) (rootOf xs)
+  pub tree : Tree 16 17 (bucketHead xs) (nodeOf xs) (rootOf xs)
 
 -- ---- what the calls leave
 

@@ -3,7 +3,7 @@
 ghost use mathlib.Core.Path.{_≡_};
 ghost use Prim.Native.Nat.{_-_, _≤_};
 ghost use lib.ListN.{length, take, drop};
-ghost use Rattle.calendar.specs.Rules.{registerChecks, registered};
+ghost use Rattle.calendar.specs.Rules.{registerChecks, registeredAt};
 ghost use Rattle.calendar.specs.Promises.{Obeys};
 use calendar::Answer;
 use calendar::Least;
@@ -201,7 +201,7 @@ fn overflow() {
 
 fn register_in(b: &mut [u8], from: usize, to: usize, station: u64, time: u64) -> Answer
     requires { ⌜ (from ≤ to) × (to ≤ length (now b)) ⌝ }
-    ensures { λ r. ⌜ Obeys (λ q. registerChecks q station time) (λ q. registered q station time)
+    ensures { λ r. ⌜ Obeys (λ q. registerChecks q station time) (λ q. registeredAt q station time)
         (take (to - from) (drop from (now (b .entry)))) r (take (to - from) (drop from (now (b .exit)))) ⌝ }
     ensures before { λ _. ⌜ take from (now (b .exit)) ≡ take from (now (b .entry)) ⌝ }
     ensures beyond { λ _. ⌜ drop to (now (b .exit)) ≡ drop to (now (b .entry)) ⌝ }

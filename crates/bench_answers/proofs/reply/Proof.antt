@@ -1,12 +1,14 @@
 -- A line is a command's, or 8.
-use borrow.Author.Needs.{needs}
+use Prim.Native.Nat.{_≤_}
 use native.Mathlib.Omega.{arith}
+use borrow.Author.Needs.{needs}
+use lib.ListN.{length}
 use Rattle.bench_answers.proofs.Answering.{no-line, nothing-done, replies, replies-8}
 use Rattle.bench_answers.proofs.reply.Statement.{statement}
 use Rattle.bench_answers.proofs.reply.Tie as tie
 
 returns : tie.Need-returns
-returns c = nothing-done _ _ _ (c .if1 .taken)
+returns c = nothing-done _ _ _ (omega (arith, c .if1 .taken))
 
 returns-2 : tie.Need-returns-2
 returns-2 c =
@@ -14,7 +16,8 @@ returns-2 c =
     let at-c = at-obey .before .before .before .before in
     let at-parse = at-c .before .before in
     let at-if1 = at-parse .before in
-    replies (at-if1 .if1 .left) (at-parse .parse .ensures) _ (at-c .c .given .1) (at-obey .obey .ensures)
+    let room : 6240 ≤ length (at-if1 .before .before .before .before .args .text .now) = omega (arith, at-if1 .if1 .left) in
+    replies room (at-parse .parse .ensures) _ (at-c .c .given .1) (at-obey .obey .ensures)
 
 returns-3 : tie.Need-returns-3
 returns-3 c =
@@ -23,7 +26,8 @@ returns-3 c =
     let at-e = at-refused .before .before .before in
     let at-parse = at-e .before .before in
     let at-if1 = at-parse .before in
-    replies-8 (at-if1 .if1 .left) (at-parse .parse .ensures) _ (at-e .e .given .1) (no-line (at-if1 .if1 .left) (at-refused .refused .ensures) (at-print .print .ensures))
+    let room : 6240 ≤ length (at-if1 .before .before .before .before .args .text .now) = omega (arith, at-if1 .if1 .left) in
+    replies-8 room (at-parse .parse .ensures) _ (at-e .e .given .1) (no-line room (at-refused .refused .ensures) (at-print .print .ensures))
 
 pub reply-spec : {M : Type 1} → statement M
 reply-spec =

@@ -5,7 +5,7 @@ use Prim.Native.Nat.{ℕ, _≤_}
 use native.Mathlib.Omega.{arith}
 use borrow.Author.Needs.{needs}
 use lib.ListN.{length, length-replicate}
-use Rattle.bench_console.specs.Input.{More}
+use Rattle.bench_console.specs.Steps.{More}
 use Rattle.bench_console.proofs.Feeding.{nothing-read, read-more, read-to-end, within-some, read-so-far}
 use Rattle.bench_console.proofs.read_all.Statement.{statement}
 use Rattle.bench_console.proofs.read_all.Tie as tie

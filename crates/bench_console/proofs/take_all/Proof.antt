@@ -5,7 +5,7 @@ use Prim.Native.Nat.{ℕ, _-_, _≤_}
 use native.Mathlib.Omega.{arith}
 use borrow.Author.Needs.{needs}
 use lib.ListN.{length, take}
-use Rattle.bench_console.specs.Input.{Console}
+use Rattle.bench_console.specs.Steps.{Console}
 use Rattle.bench_console.proofs.Feeding.{feed-none, feed-next, feed-all}
 use Rattle.bench_console.proofs.take_all.Statement.{statement}
 use Rattle.bench_console.proofs.take_all.Tie as tie

@@ -4,13 +4,13 @@ use Prim.Native.Nat.{_+_, _-_, _≤_}
 use native.Mathlib.Omega.{arith}
 use lib.ListN.{length, getD, drop}
 use borrow.Author.Tests.{le-leb, lt-leb}
-use Rattle.bench_command.specs.Numeral.{count}
+use Rattle.bench_command.specs.Numeral.{digitCount}
 use Rattle.bench_command.proofs.Numerals.{at-digit, at-other, at-end}
 use Rattle.bench_parsing.proofs.digit_count.Statement.{statement}
 use Rattle.bench_parsing.proofs.digit_count.Tie as tie
 
 abbrev Inv-loop : tie.InvT-loop
-Inv-loop line at i₀ i = (at ≤ i) × (count (drop at line) + at ≡ i + count (drop i line))
+Inv-loop line at i₀ i = (at ≤ i) × (digitCount (drop at line) + at ≡ i + digitCount (drop i line))
 
 abbrev μ-loop : tie.MeasureT-loop
 μ-loop line at i₀ i = length line - i

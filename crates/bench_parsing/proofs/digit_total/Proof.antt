@@ -6,7 +6,7 @@ use native.Mathlib.Omega.{arith}
 use lib.ListN.{getD, drop}
 use borrow.Author.Tests.{le-leb, lt-leb}
 use Rattle.bench_parsing.specs.declared.Total.the-variants.{Over}
-use Rattle.bench_command.specs.Numeral.{count, total}
+use Rattle.bench_command.specs.Numeral.{digitCount, total}
 use Rattle.bench_parsing.specs.Steps.{totalOf}
 use Rattle.bench_command.proofs.Numerals.{Digit, at-digit, sum-digit, digit-at, total-stops, stops-count, total-least}
 use Rattle.bench_parsing.proofs.digit_total.Statement.{statement}
@@ -14,7 +14,7 @@ use Rattle.bench_parsing.proofs.digit_total.Tie as tie
 
 abbrev Inv-loop : tie.InvT-loop
 Inv-loop line at n v₀ k₀ v k =
-    (k ≤ n) × (v ≤ 18446744073709551615) × (total 0 (drop at line) ≡ total v (drop (at + k) line)) × (count (drop (at + k) line) ≡ n - k)
+    (k ≤ n) × (v ≤ 18446744073709551615) × (total 0 (drop at line) ≡ total v (drop (at + k) line)) × (digitCount (drop (at + k) line) ≡ n - k)
 
 abbrev μ-loop : tie.MeasureT-loop
 μ-loop line at n v₀ k₀ v k = n - k
@@ -27,8 +27,8 @@ digit c = digit-at _ _ (omega arith)
 next : (at k : ℕ) → at + k + 1 ≡ at + (k + 1)
 next at k = omega arith
 
-left : (xs : List ℕ) (at k : ℕ) → Digit xs (at + k) → count (drop (at + k) xs) ≡ suc (count (drop (at + (k + 1)) xs))
-left xs at k d = at-digit xs (at + k) d ∙ ap (λ (m : ℕ). suc (count (drop m xs))) (next at k)
+left : (xs : List ℕ) (at k : ℕ) → Digit xs (at + k) → digitCount (drop (at + k) xs) ≡ suc (digitCount (drop (at + (k + 1)) xs))
+left xs at k d = at-digit xs (at + k) d ∙ ap (λ (m : ℕ). suc (digitCount (drop m xs))) (next at k)
 
 sum : (xs : List ℕ) (at k v : ℕ) → Digit xs (at + k)
     → total v (drop (at + k) xs) ≡ total (10 * v + (getD xs (at + k) 0 - 48)) (drop (at + (k + 1)) xs)
@@ -51,7 +51,7 @@ loop-holds c =
       omega arith,
       omega arith,
       ap (λ (m : ℕ). total 0 (drop m (c .args .line .now))) e,
-      ap (λ (m : ℕ). count (drop m (c .args .line .now))) (sym e) ∙ sym (c .pre) ∙ omega arith,
+      ap (λ (m : ℕ). digitCount (drop m (c .args .line .now))) (sym e) ∙ sym (c .pre) ∙ omega arith,
     )
 
 returns : tie.Need-returns Inv-loop μ-loop
@@ -74,7 +74,7 @@ returns-3 : tie.Need-returns-3 Inv-loop μ-loop
 returns-3 c =
     let a = c .before .before .args in
     let l = c .before .loop in
-    let z : count (drop (a .at + l .k) (a .line .now)) ≡ 0 = omega arith in
+    let z : digitCount (drop (a .at + l .k) (a .line .now)) ≡ 0 = omega arith in
     let e : l .v ≡ total 0 (drop (a .at) (a .line .now)) = sym (l .inv .2 ∙ total-stops (l .v) _ (stops-count _ z)) in
     rw (← e, le-leb (l .v) 18446744073709551615 (l .inv .1))
 

@@ -5,7 +5,7 @@ use native.Mathlib.Omega.{arith}
 use borrow.Author.Needs.{needs}
 use lib.ListN.{length, take}
 use lib.Seq.{take-all}
-use Rattle.bench_printing.specs.Printing.{Appends}
+use Rattle.bench_printing.specs.Steps.{Appends}
 use Rattle.bench_printing.proofs.Appending.{nothing, then, read-as}
 use Rattle.bench_command.proofs.Prefixes.{next-byte}
 use Rattle.bench_printing.proofs.append_word.Statement.{statement}

@@ -8,7 +8,7 @@ use borrow.Author.Needs.{needs}
 use denote.Ref.{now}
 use lib.ListN.{take, drop}
 use lib.Seq.{length-take-le, take-at, drop-at}
-use Rattle.calendar.specs.Rules.{Calendar, registerChecks, registered}
+use Rattle.calendar.specs.Rules.{Calendar, registerChecks, registeredAt}
 use Rattle.calendar.specs.Promises.{Obeys}
 use Rattle.calendar_test.proofs.register_in.Statement.{statement}
 use Rattle.calendar_test.proofs.register_in.Tie as tie
@@ -25,7 +25,7 @@ returns c =
     let size = register .kept .0 ∙ mid-len (a .from) (a .to) xs (pre .1) in
     let before = length-take-le (a .from) xs (omega (arith, pre)) in
     let part = ap (take k) (drop-at (take (a .from) xs) (ys ++ postOf (a .from) k xs) (a .from) before) ∙ take-at ys (postOf (a .from) k xs) k size in (
-      subst (Obeys (λ (q : Calendar). registerChecks q (a .station) (a .time)) (λ (q : Calendar). registered q (a .station) (a .time))
+      subst (Obeys (λ (q : Calendar). registerChecks q (a .station) (a .time)) (λ (q : Calendar). registeredAt q (a .station) (a .time))
           (take k (drop (a .from) xs)) (register .result)) (sym part) (register .ensures),
       (take-put (a .from) k xs ys (omega (arith, pre)), drop-put (a .from) (a .to) xs ys (pre .0) (pre .1) size),
     )

@@ -18,7 +18,7 @@ use Rattle.rings.specs.Table.{Frame}
 use Rattle.engine_rows.specs.Layout.{slotRow}
 use Rattle.entry.proofs.EntryLaws.{event-time}
 use Rattle.calendar.specs.declared.Answer.{Answer}
-use Rattle.calendar.specs.Rules.{withTime, registerChecks, registered as entered, unregisterChecks, unregistered}
+use Rattle.calendar.specs.Rules.{withTime, registerChecks, registeredAt as entered, unregisterChecks, unregistered}
 use Rattle.calendar.specs.Bytes.{Sound, stateOf}
 use Rattle.calendar.specs.Promises.{Obeys}
 use Rattle.engine_events.specs.Shows.{asTime}

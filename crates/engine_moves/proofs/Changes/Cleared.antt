@@ -15,7 +15,7 @@ use Rattle.engine_rows.specs.Layout.{stationRow, slotRow}
 use Rattle.calendar.specs.declared.Answer.{Answer}
 use Rattle.calendar.specs.Rules as calendar
 use Rattle.calendar.specs.Bytes.{stateOf}
-use Rattle.calendar.specs.Promises.{Opens}
+use Rattle.calendar.specs.Promises.{OpensCalendar}
 use Rattle.engine_events.proofs.CalendarShown.{opened-shows}
 use Rattle.engine_index.specs.Layout.{indexBytes}
 use Rattle.engine_index.specs.Opening as index
@@ -34,18 +34,18 @@ length-places n zero = refl
 length-places n (suc c) = length-append (places n c) ((2 * n + 1 + c) ∷ []) ∙ (let h : length (places n c) ≡ c = length-places n c in omega arith)
 
 pub cleared : (n c width : ℕ) {start end : ℕ} (xs zs ys : List ℕ) {r : Answer} → 0 < c → n ≤ 256 → c ≤ 4096 → 32768 + 256 * n + 256 * c ≤ length xs
-    → start ≡ calendarAt n c → end ≡ start + 32768 + 64 * n → length zs ≡ length (take (end - start) (drop start xs)) → Opens n width (take (end - start) (drop start xs)) r zs
+    → start ≡ calendarAt n c → end ≡ start + 32768 + 64 * n → length zs ≡ length (take (end - start) (drop start xs)) → OpensCalendar n width (take (end - start) (drop start xs)) r zs
     → Frame (slotRow n 0) (indexBytes n c) (putMid start (end - start) xs zs) ys → index.Clears n c (putMid start (end - start) xs zs) ys
     → AfterHeader xs ys × ClearsEvents n c width xs ys
 unfolding opened
 cleared n c width {start} {end} xs zs ys {r} some few slots long ls le size O F K = (
   frame-on (frame-wider 64 (length xs) (omega arith) (omega arith) G) (frame-wider 64 (length xs) (omega arith) (omega arith) F),
   λ p count a b f w v configs states.
-      let O : Opens n width (part n c xs) r zs = rw (put .0) at O in
+      let O : OpensCalendar n width (part n c xs) r zs = rw (put .0) at O in
       let long-part : length (part n c xs) ≡ calendarBytes n = length-take-le (calendarBytes n) (drop (calendarAt n c) xs) (omega (arith, length-drop (calendarAt n c) xs)) in
       let done = accepted-done r (O .answer ∙ open-accepted n width (length (part n c xs)) a few w v (omega arith)) in
       let left : part n c ys ≡ zs = part-kept n c F (omega arith) ∙ put .1 .0 in
-      let state : stateOf zs ≡ calendar.opened n width = O .state done in (
+      let state : stateOf zs ≡ calendar.openedCalendar n width = O .state done in (
         record {
           stores = record {
             count = count;
