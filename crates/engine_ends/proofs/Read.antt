@@ -9,7 +9,7 @@ use borrow.Author.Tests.{le-leb, lt-leb, lt-ltb, le-ltb, eq-eqb, ne-eqb}
 use lib.Dec.{eqb, leb}
 use lib.ListN.{length}
 use Rattle.rings.specs.Table.{nextOf, prevOf}
-use Rattle.engine_index.specs.Layout.{runRing, freeRing, linksAt, slotIn}
+use Rattle.engine_index.specs.Layout.{runRing, freeRing, linksAt, slotFound}
 use Rattle.engine_ends.specs.Ends.{firstUnrun, firstRun, lastRun, firstFree, spareNode}
 
 module _ (xs : List ℕ) (n c s : ℕ) where
@@ -95,10 +95,10 @@ module _ (xs : List ℕ) (n c : ℕ) where
       go true true q = absurd (omega arith)
       go false w q = absurd (omega arith)
 
-  pub spare-is : {x i : ℕ} → x ≡ firstFree xs n c → i ≡ slotIn n c (length xs) x → i < c → x ≡ spareNode xs n c
+  pub spare-is : {x i : ℕ} → x ≡ firstFree xs n c → i ≡ slotFound n c (length xs) x → i < c → x ≡ spareNode xs n c
   unfolding spareNode
   spare-is ex ei h = rw (← ex, ← ei, lt-ltb _ c h)
 
-  pub spare-none : {x i : ℕ} → x ≡ firstFree xs n c → i ≡ slotIn n c (length xs) x → c ≤ i → 0 ≡ spareNode xs n c
+  pub spare-none : {x i : ℕ} → x ≡ firstFree xs n c → i ≡ slotFound n c (length xs) x → c ≤ i → 0 ≡ spareNode xs n c
   unfolding spareNode
   spare-none ex ei h = rw (← ex, ← ei, le-ltb _ c h)

@@ -5,7 +5,7 @@ use Prim.Native.Nat.{ℕ}
 use lib.Dec.{eqb, leb, ltb}
 use lib.ListN.{length}
 use Rattle.rings.specs.Table.{nextOf, prevOf}
-use Rattle.engine_index.specs.Layout.{unrunRing, runRing, freeRing, linksAt, slotIn, nextLogged}
+use Rattle.engine_index.specs.Layout.{unrunRing, runRing, freeRing, linksAt, slotFound, nextLogged}
 
 -- the node x that stands next to the sentinel u: none where it is u
 abbrev pub besideSentinel : ℕ → ℕ → ℕ
@@ -28,7 +28,7 @@ firstFree xs n c = cond (leb n 256) (besideSentinel (freeRing n) (nextOf xs (lin
 
 -- the first free slot's, where the index lies whole in the bytes
 unfoldable pub spareNode : List ℕ → ℕ → ℕ → ℕ
-spareNode xs n c = cond (ltb (slotIn n c (length xs) (firstFree xs n c)) c) (firstFree xs n c) 0
+spareNode xs n c = cond (ltb (slotFound n c (length xs) (firstFree xs n c)) c) (firstFree xs n c) 0
 
 -- of the log, whose sentinel is 0
 abbrev pub firstLogged : List ℕ → ℕ → ℕ → ℕ

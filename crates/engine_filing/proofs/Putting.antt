@@ -8,7 +8,7 @@ use Rattle.line.specs.declared.Event.{Event}
 use Rattle.rings.specs.Table.{nextOf}
 use Rattle.rings.proofs.Frames.{frame-same}
 use Rattle.engine_rows.specs.Layout.{slotRow}
-use Rattle.engine_index.specs.Layout.{freeRing, linksAt, indexBytes, IsSlot, slotIn}
+use Rattle.engine_index.specs.Layout.{freeRing, linksAt, indexBytes, IsSlot, slotFound}
 use Rattle.engine_index.specs.SlotPromises.{Spares}
 use Rattle.engine_index.specs.Promises.{Puts}
 use Rattle.engine_index.proofs.Places.FoundSlot.{finds}
@@ -24,7 +24,7 @@ module _ (n c : ℕ) (xs : List ℕ) (e : Event) where
   abbrev pub PutEnd : ℕ → List ℕ → Type 0
   PutEnd r ys = Inside n c xs ys × (Puts n c xs e r ys × (Spares n c r xs ys × ((r ≡ spareNode xs n c) × (r ≡ 0 → ys ≡ xs))))
 
-  module _ {x i : ℕ} (ex : x ≡ firstFree xs n c) (ei : i ≡ slotIn n c (length xs) x) where
+  module _ {x i : ℕ} (ex : x ≡ firstFree xs n c) (ei : i ≡ slotFound n c (length xs) x) where
     module _ (h : i < c) where
       abbrev pub found : IsSlot n c (length xs) x
       found = finds ei .sound h .0

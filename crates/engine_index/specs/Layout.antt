@@ -54,8 +54,8 @@ pub record IsSlot (n c bytes x : ℕ) : Type 0 where
   pub below : x < nodesOf n c
 
 -- the slot of a node after the sentinels, of an index that lies whole in so many bytes; c elsewhere
-unfoldable pub slotIn : ℕ → ℕ → ℕ → ℕ → ℕ
-slotIn n c bytes x = cond (inRange n c && (leb (slotRow n 0 + indexBytes n c) bytes && ltb (freeRing n) x)) (slotOf n x) c
+unfoldable pub slotFound : ℕ → ℕ → ℕ → ℕ → ℕ
+slotFound n c bytes x = cond (inRange n c && (leb (slotRow n 0 + indexBytes n c) bytes && ltb (freeRing n) x)) (slotOf n x) c
 
 -- ---- the log
 

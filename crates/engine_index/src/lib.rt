@@ -12,7 +12,7 @@ ghost use mathlib.Core.Path.{_≡_};
 ghost use Prim.Native.Nat.{_+_, _*_, _%_};
 ghost use lib.ListN.{length};
 ghost use Rattle.rings.specs.Table.{nextOf, prevOf};
-ghost use Rattle.engine_index.specs.Layout.{linksAt, runRing, freeRing, nodeOf, nodesOf, inRange, slotOf, slotIn, nextLogged};
+ghost use Rattle.engine_index.specs.Layout.{linksAt, runRing, freeRing, nodeOf, nodesOf, inRange, slotOf, slotFound, nextLogged};
 
 // ---- shape
 
@@ -81,7 +81,7 @@ pub fn slot(n: u16, x: u16) -> u16
 // The slot of node x; c where x is a sentinel, or the index does not lie whole in the buffer; more than that where x is no node. Where it is below c, the
 // compiler leaves out the tests of the loads and stores in that slot and its links.
 pub fn slot_in(b: &[u8], n: u16, c: u16, x: u16) -> u16
-    ensures { λ r. ⌜ r ≡ slotIn n c (length (now (b .entry))) x ⌝ }
+    ensures { λ r. ⌜ r ≡ slotFound n c (length (now (b .entry))) x ⌝ }
 {
     if in_range(n, c) {
         if log(n, c) as usize + 4 * nodes(n, c) as usize <= b.len() {

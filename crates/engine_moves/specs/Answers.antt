@@ -7,7 +7,7 @@ use lib.ListN.{length}
 use Rattle.line.specs.declared.Event.{Event}
 use Rattle.entry.specs.Entry.{eventAt}
 use Rattle.engine_rows.specs.Layout.{slotRow, runStatus}
-use Rattle.engine_index.specs.Layout.{slotOf, slotIn}
+use Rattle.engine_index.specs.Layout.{slotOf, slotFound}
 use Rattle.engine_index.specs.Represents.{statusAt}
 use Rattle.engine_ends.specs.Ends.{spareNode}
 use Rattle.engine_events.specs.Represents.{fitsIn}
@@ -20,4 +20,4 @@ heldNode xs n c e = cond (fitsIn n c (length xs) && ltb (e .target) n) (spareNod
 unfoldable pub hasRunAt : List ℕ → ℕ → ℕ → ℕ → Bool
 hasRunAt xs n c x =
     fitsIn n c (length xs)
-    && (ltb (slotIn n c (length xs) x) c && (eqb (statusAt n x xs) runStatus && ltb (eventAt (slotRow n (slotOf n x)) xs .target) n))
+    && (ltb (slotFound n c (length xs) x) c && (eqb (statusAt n x xs) runStatus && ltb (eventAt (slotRow n (slotOf n x)) xs .target) n))

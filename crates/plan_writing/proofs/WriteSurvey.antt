@@ -11,13 +11,13 @@ use Rattle.plan_format.specs.declared.Station.{Station}
 use Rattle.plan_writing.specs.declared.Pen.{Pen}
 use Rattle.plan_format.specs.Lowest.{lowest}
 use Rattle.plan_format.specs.Writing.{noStation, fieldOut, wordOut}
-use Rattle.plan_writing.specs.Steps.{Draft, counted, ready, roomy, moved, placed, stepped, drafted, penOf}
+use Rattle.plan_writing.specs.Steps.{Draft, nameBytes, ready, roomy, moved, placed, stepped, drafted, penOf}
 use Rattle.plan_writing.proofs.WriteTests.{counted-most}
 
 -- the bytes of the first k records
 unfoldable pub spread : List Station → ℕ → ℕ
 spread ss zero = 0
-spread ss (suc k) = spread ss k + (26 + counted (getD ss k noStation .len))
+spread ss (suc k) = spread ss k + (26 + nameBytes (getD ss k noStation .len))
 
 spread-most : (ss : List Station) (k : ℕ) → spread ss k ≤ 42 * k
 unfolding spread
@@ -35,7 +35,7 @@ moved-at : (ss : List Station) (n : ℕ) (writing : Bool) (k : ℕ) → moved (g
 unfolding moved lowest spread
 moved-at ss n writing k =
     let e : k + 1 ≡ suc k = add-one k in
-    let f : 2 + 8 * n + spread ss k + 26 + counted (getD ss k noStation .len) ≡ 2 + 8 * n + (spread ss k + (26 + counted (getD ss k noStation .len))) = at-next (2 + 8 * n) (spread ss k) (counted (getD ss k noStation .len)) in
+    let f : 2 + 8 * n + spread ss k + 26 + nameBytes (getD ss k noStation .len) ≡ 2 + 8 * n + (spread ss k + (26 + nameBytes (getD ss k noStation .len))) = at-next (2 + 8 * n) (spread ss k) (nameBytes (getD ss k noStation .len)) in
     cc
 
 ready-at : (ss : List Station) (n : ℕ) (writing : Bool) (k : ℕ) → n ≤ 256 → k < n → ready (penAt ss n writing k) ≡ true

@@ -8,7 +8,7 @@ use lib.Dec.{ltb, leb}
 use Rattle.plan_format.specs.declared.Station.{Station}
 use Rattle.plan_writing.specs.declared.Pen.{Pen}
 use Rattle.plan_format.specs.Writing.{sizeOf}
-use Rattle.plan_writing.specs.Steps.{wanted, counted, ready, roomy}
+use Rattle.plan_writing.specs.Steps.{wanted, nameBytes, ready, roomy}
 
 -- at most 256, and at most what the list has
 pub wanted-fits : (n len : ℕ) → (wanted n len ≤ 256) × (wanted n len ≤ len)
@@ -39,7 +39,7 @@ roomy-true s p room h =
     let d = both (leb (10 + 8 * p .k) room) (leb (p .at + sizeOf s) room) (b .1) in
     (leb-true (s .len) 16 (b .0), (leb-true (10 + 8 * p .k) room (d .0), leb-true (p .at + sizeOf s) room (d .1)))
 
-pub counted-most : (len : ℕ) → counted len ≤ 16
+pub counted-most : (len : ℕ) → nameBytes len ≤ 16
 counted-most len = go (ltb 16 len) refl
   where
     go : (t : Bool) → ltb 16 len ≡ t → cond t 16 len ≤ 16

@@ -22,16 +22,16 @@ use Rattle.plan_format.specs.Writing.{sizeOf, recordBytes, noStation, countOut}
 abbrev pub lower : ℕ → ℕ → Bool → ℕ
 lower low k bad = cond (ltb low k) low (cond bad k (suc k))
 
--- the bytes of a name that are counted: a longer one is refused
-abbrev pub counted : ℕ → ℕ
-counted len = cond (ltb 16 len) 16 len
+-- the bytes of a name that are nameBytes: a longer one is refused
+abbrev pub nameBytes : ℕ → ℕ
+nameBytes len = cond (ltb 16 len) 16 len
 
 -- the pen after one station more
 unfoldable pub moved : Station → Pen → Pen
 moved s p = record {
   n = p .n;
   k = p .k + 1;
-  at = p .at + 26 + counted (s .len);
+  at = p .at + 26 + nameBytes (s .len);
   field = lower (p .field) (p .k) (numberOut (p .k) (s .config));
   name = lower (p .name) (p .k) (nameOut s);
   writing = p .writing;
@@ -46,11 +46,11 @@ abbrev pub roomy : Station → Pen → ℕ → Bool
 roomy s p room = p .writing && (leb (s .len) 16 && (leb (10 + 8 * p .k) room && leb (p .at + sizeOf s) room))
 
 -- the first four numbers of a record, and the other three
-abbrev pub headOf : Config → List ℕ
-headOf c = bytesOf 2 (c .parent) ++ (bytesOf 4 (c .calm) ++ (bytesOf 4 (c .spring) ++ bytesOf 4 (c .threshold)))
+abbrev pub headBytes : Config → List ℕ
+headBytes c = bytesOf 2 (c .parent) ++ (bytesOf 4 (c .calm) ++ (bytesOf 4 (c .spring) ++ bytesOf 4 (c .threshold)))
 
-abbrev pub tailOf : Config → List ℕ
-tailOf c = bytesOf 4 (c .hop) ++ (bytesOf 4 (c .noise) ++ bytesOf 4 (c .seed))
+abbrev pub tailBytes : Config → List ℕ
+tailBytes c = bytesOf 4 (c .hop) ++ (bytesOf 4 (c .noise) ++ bytesOf 4 (c .seed))
 
 -- the count, before the first station
 abbrev pub headed : Pen → List ℕ → List ℕ

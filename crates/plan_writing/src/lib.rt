@@ -9,7 +9,7 @@ ghost use lib.Seq.{sets};
 ghost use Rattle.words.specs.Le.{bytesOf};
 ghost use Rattle.plan_format.specs.Writing.{sizeOf, recordBytes};
 ghost use Rattle.plan_writing.specs.Promises.{WritesPlan};
-ghost use Rattle.plan_writing.specs.Steps.{lower, counted, moved, ready, roomy, headed, placed, stepped, drafted, penOf, wanted, answered, secondCount, headOf, tailOf};
+ghost use Rattle.plan_writing.specs.Steps.{lower, nameBytes, moved, ready, roomy, headed, placed, stepped, drafted, penOf, wanted, answered, secondCount, headBytes, tailBytes};
 use line::Config;
 use plan_format::Station;
 use plan_format::WriteAnswer;
@@ -56,7 +56,7 @@ fn lowest_of(low: usize, k: usize, bad: bool) -> usize
 }
 
 fn counted_of(len: usize) -> usize
-    ensures { λ r. ⌜ r ≡ counted len ⌝ }
+    ensures { λ r. ⌜ r ≡ nameBytes len ⌝ }
 {
     if 16 < len {
         return 16;
@@ -110,7 +110,7 @@ fn put_name(out: &mut [u8], at: usize, name: [u8; 16], n: usize)
 // The first four numbers of a record, and the other three.
 fn put_head(out: &mut [u8], at: usize, c: Config)
     requires { ⌜ at + 14 ≤ length (now out) ⌝ }
-    ensures { λ _. ⌜ now (out .exit) ≡ sets (now (out .entry)) at (headOf c) ⌝ }
+    ensures { λ _. ⌜ now (out .exit) ≡ sets (now (out .entry)) at (headBytes c) ⌝ }
 {
     words::store16(&mut *out, at, c.parent);
     words::store32(&mut *out, at + 2, c.calm);
@@ -120,7 +120,7 @@ fn put_head(out: &mut [u8], at: usize, c: Config)
 
 fn put_tail(out: &mut [u8], at: usize, c: Config)
     requires { ⌜ at + 12 ≤ length (now out) ⌝ }
-    ensures { λ _. ⌜ now (out .exit) ≡ sets (now (out .entry)) at (tailOf c) ⌝ }
+    ensures { λ _. ⌜ now (out .exit) ≡ sets (now (out .entry)) at (tailBytes c) ⌝ }
 {
     words::store32(&mut *out, at, c.hop);
     words::store32(&mut *out, at + 4, c.noise);

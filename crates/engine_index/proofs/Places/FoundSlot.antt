@@ -6,7 +6,7 @@ use native.Mathlib.Omega.{arith}
 use borrow.Author.Tests.{le-leb, lt-leb, leb-true, leb-false, lt-ltb, le-ltb, ltb-true, ltb-false}
 use lib.Dec.{leb, ltb}
 use Rattle.engine_rows.specs.Layout.{slotRow}
-use Rattle.engine_index.specs.Layout.{freeRing, logAt, nodesOf, indexBytes, inRange, slotOf, IsSlot, slotIn}
+use Rattle.engine_index.specs.Layout.{freeRing, logAt, nodesOf, indexBytes, inRange, slotOf, IsSlot, slotFound}
 
 -- r is the slot of node x; c or more where that is no slot's
 pub record FindsSlot (n c bytes x r : ℕ) : Type 0 where
@@ -14,8 +14,8 @@ pub record FindsSlot (n c bytes x r : ℕ) : Type 0 where
   pub complete : IsSlot n c bytes x → (r < c) × (r ≡ slotOf n x)
 
 -- as a call of slot_in ensures it
-pub finds : {n c bytes x r : ℕ} → r ≡ slotIn n c bytes x → FindsSlot n c bytes x r
-unfolding slotIn
+pub finds : {n c bytes x r : ℕ} → r ≡ slotFound n c bytes x → FindsSlot n c bytes x r
+unfolding slotFound
 finds {n} {c} {bytes} {x} {r} = go (leb n 256) (leb c 4096) (leb (slotRow n 0 + indexBytes n c) bytes) (ltb (freeRing n) x) refl refl refl refl
   where
     none : r ≡ c → (IsSlot n c bytes x → ⊥) → FindsSlot n c bytes x r
@@ -44,20 +44,20 @@ finds {n} {c} {bytes} {x} {r} = go (leb n 256) (leb c 4096) (leb (slotRow n 0 + 
 -- ---- the code
 
 module _ (n c bytes x : ℕ) where
-  pub out-of-range : {r : Bool} → r ≡ inRange n c → r ≡ false → c ≡ slotIn n c bytes x
-  unfolding slotIn
+  pub out-of-range : {r : Bool} → r ≡ inRange n c → r ≡ false → c ≡ slotFound n c bytes x
+  unfolding slotFound
   out-of-range e z = let t : inRange n c ≡ false = sym e ∙ z in rw t
 
   module _ (p : n ≤ 256) (q : c ≤ 4096) {l k : ℕ} (el : l ≡ logAt n c) (ek : k ≡ nodesOf n c) where
-    pub short : bytes < l + 4 * k → c ≡ slotIn n c bytes x
-    unfolding slotIn
+    pub short : bytes < l + 4 * k → c ≡ slotFound n c bytes x
+    unfolding slotFound
     short h = rw (le-leb n 256 p, le-leb c 4096 q, lt-leb (slotRow n 0 + indexBytes n c) bytes (omega arith))
 
     module _ (room : l + 4 * k ≤ bytes) where
-      pub found : freeRing n < x → x - (2 * n + 1) ≡ slotIn n c bytes x
-      unfolding slotIn
+      pub found : freeRing n < x → x - (2 * n + 1) ≡ slotFound n c bytes x
+      unfolding slotFound
       found low = rw (le-leb n 256 p, le-leb c 4096 q, le-leb (slotRow n 0 + indexBytes n c) bytes (omega arith), lt-ltb (freeRing n) x low)
 
-      pub sentinel : x ≤ freeRing n → c ≡ slotIn n c bytes x
-      unfolding slotIn
+      pub sentinel : x ≤ freeRing n → c ≡ slotFound n c bytes x
+      unfolding slotFound
       sentinel h = rw (le-leb n 256 p, le-leb c 4096 q, le-leb (slotRow n 0 + indexBytes n c) bytes (omega arith), le-ltb (freeRing n) x h)

@@ -10,7 +10,7 @@ use lib.ListN.{length}
 use Rattle.line.specs.declared.Event.{Event}
 use Rattle.engine_index.specs.SlotPromises.{Spares}
 use Rattle.engine_index.specs.Promises.{Puts}
-use Rattle.engine_index.specs.Layout.{slotIn}
+use Rattle.engine_index.specs.Layout.{slotFound}
 use Rattle.engine_ends.specs.Ends.{firstFree, spareNode}
 use Rattle.engine_events.specs.Represents.{fitsIn}
 use Rattle.engine_events.specs.Promises.{AfterHeader}
@@ -54,7 +54,7 @@ module _ (n c : ℕ) (e : Event) (xs : List ℕ) where
       either false = refl
 
       none : 0 ≡ heldNode xs n c e
-      none = rw (le-ltb (slotIn n c (length xs) (firstFree xs n c)) c (omega arith)) (either (fitsIn n c (length xs) && ltb (e .target) n))
+      none = rw (le-ltb (slotFound n c (length xs) (firstFree xs n c)) c (omega arith)) (either (fitsIn n c (length xs) && ltb (e .target) n))
 
   pub hold-outside : {v : Bool} → v ≡ fitsIn n c (length xs) → v ≡ true → n ≤ e .target → HoldEnd n c e xs 0 xs
   unfolding heldNode

@@ -20,7 +20,7 @@ use Rattle.engine_records.specs.Records.{stateAt, putState}
 use Rattle.line.specs.Widths.{StateFits}
 use Rattle.engine_records.proofs.RecordLaws.{length-state}
 use Rattle.engine_records.proofs.Fits.{state-fits}
-use Rattle.engine_index.specs.Layout.{slotOf, IsSlot, slotIn}
+use Rattle.engine_index.specs.Layout.{slotOf, IsSlot, slotFound}
 use Rattle.engine_index.specs.SlotPromises.{Spares, Sets}
 use Rattle.engine_index.specs.Represents.{Cell, cell, statusAt}
 use Rattle.engine_index.specs.Promises.{Unmarks}
@@ -50,7 +50,7 @@ status-at n {i} {j} xs e h = h ∙ ap (λ (a : ℕ). loadAt 2 a xs) (omega arith
 
 module _ (n c x : ℕ) where
   pub unrun-made : (e : Event) (b : State) {v : Bool} {i k : ℕ} {xs ys us zs : List ℕ} → v ≡ fitsIn n c (length xs) → v ≡ true
-      → i ≡ slotIn n c (length xs) x → i < c
+      → i ≡ slotFound n c (length xs) x → i < c
       → k ≡ loadAt 2 (slotRow n i + 56 + 2 * 2) xs → k ≡ 2 → e ≡ eventAt (slotRow n i) xs → e .target < n
       → b ≡ stateAt (slotRow n i + 24) xs → ((j : ℕ) → getD xs j 0 < 256)
       → Indexed n c xs ys × (Unmarks n c xs x ys
@@ -141,7 +141,7 @@ module _ (n c x : ℕ) where
         answer : hasRunAt xs n c x ≡ false
         answer = let f : fitsIn n c (length xs) ≡ false = sym ev ∙ z in rw f
 
-    module _ {v : Bool} (ev : v ≡ fitsIn n c (length xs)) (fit : v ≡ true) {i : ℕ} (ei : i ≡ slotIn n c (length xs) x) where
+    module _ {v : Bool} (ev : v ≡ fitsIn n c (length xs)) (fit : v ≡ true) {i : ℕ} (ei : i ≡ slotFound n c (length xs) x) where
       fits-here : fitsIn n c (length xs) ≡ true
       fits-here = sym ev ∙ fit
 

@@ -1,5 +1,5 @@
 -- `put_head` meets its contract: four stores, each after the last, are one run.
-use Rattle.plan_writing.specs.Steps.{headOf}
+use Rattle.plan_writing.specs.Steps.{headBytes}
 use Rattle.plan_writing.proofs.WriteStores.{store-sets, store-then}
 use Rattle.words.proofs.Laws.{length-bytes}
 use Rattle.words.specs.Le.{bytesOf}
@@ -22,7 +22,7 @@ returns c =
     let p₁ = bytesOf 2 (v .parent) in
     let p₂ = p₁ ++ bytesOf 4 (v .calm) in
     let p₃ = p₂ ++ bytesOf 4 (v .spring) in
-    let e : p₃ ++ bytesOf 4 (v .threshold) ≡ headOf v = simp append-assoc in
+    let e : p₃ ++ bytesOf 4 (v .threshold) ≡ headBytes v = simp append-assoc in
     store-then l at (at + 10) 4 (v .threshold) p₃
     (store-then l at (at + 6) 4 (v .spring) p₂
     (store-then l at (at + 2) 4 (v .calm) p₁

@@ -1,5 +1,5 @@
 -- `put_record` meets its contract: the numbers and the name, each after the last, are one run.
-use Rattle.plan_writing.specs.Steps.{headOf, tailOf}
+use Rattle.plan_writing.specs.Steps.{headBytes, tailBytes}
 use Rattle.plan_format.specs.Writing.{recordBytes}
 use Rattle.plan_writing.proofs.WriteStores.{sets-then}
 use Rattle.words.proofs.Laws.{length-bytes}
@@ -18,8 +18,8 @@ returns c =
     let a = c .before .before .before .before .before .before .before .before .before .before .before .before .before .before .before .args in
     let l = a .out .now in
     let at = a .at in
-    let h = headOf (a .s .config) in
-    let t = tailOf (a .s .config) in
+    let h = headBytes (a .s .config) in
+    let t = tailBytes (a .s .config) in
     let n = take (a .s .len) (a .s .name) in
     let e : (h ++ t) ++ n ≡ recordBytes (a .s) = simp append-assoc in
     c .before .before .put-name .ensures

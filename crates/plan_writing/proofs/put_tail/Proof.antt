@@ -1,5 +1,5 @@
 -- `put_tail` meets its contract: three stores, each after the last, are one run.
-use Rattle.plan_writing.specs.Steps.{tailOf}
+use Rattle.plan_writing.specs.Steps.{tailBytes}
 use Rattle.plan_writing.proofs.WriteStores.{store-sets, store-then}
 use Rattle.words.proofs.Laws.{length-bytes}
 use Rattle.words.specs.Le.{bytesOf}
@@ -21,7 +21,7 @@ returns c =
     let v = a .c in
     let p₁ = bytesOf 4 (v .hop) in
     let p₂ = p₁ ++ bytesOf 4 (v .noise) in
-    let e : p₂ ++ bytesOf 4 (v .seed) ≡ tailOf v = simp append-assoc in
+    let e : p₂ ++ bytesOf 4 (v .seed) ≡ tailBytes v = simp append-assoc in
     store-then l at (at + 8) 4 (v .seed) p₂
     (store-then l at (at + 4) 4 (v .noise) p₁
     (c .before .before .before .before .before .before .before .before .before .before .store32 .ensures ∙ store-sets 4 at (v .hop) l (omega arith))
