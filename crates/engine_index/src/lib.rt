@@ -11,7 +11,7 @@
 ghost use mathlib.Core.Path.{_≡_};
 ghost use Prim.Native.Nat.{_+_, _*_, _%_};
 ghost use lib.ListN.{length};
-ghost use Rattle.rings.specs.Table.{nextOf, prevOf};
+ghost use Rattle.rings.specs.Table.{nextOf};
 ghost use Rattle.engine_index.specs.Layout.{linksAt, runRing, freeRing, nodeOf, nodesOf, inRange, slotOf, slotFound, nextLogged};
 
 // ---- shape
@@ -93,19 +93,13 @@ pub fn slot_in(b: &[u8], n: u16, c: u16, x: u16) -> u16
     c
 }
 
-// ---- the ends of a ring: a node, or the sentinel where the ring is empty
+// ---- links
 
-// The node after node x in the stations' rings and the free ring, and the one before it.
+// The node after node x in the stations' rings and the free ring.
 pub fn next(b: &[u8], n: u16, c: u16, x: u16) -> u16
     ensures { λ r. ⌜ r ≡ nextOf (now (b .entry)) (linksAt n c) x ⌝ }
 {
     rings::next(b, links(n, c), x)
-}
-
-pub fn prev(b: &[u8], n: u16, c: u16, x: u16) -> u16
-    ensures { λ r. ⌜ r ≡ prevOf (now (b .entry)) (linksAt n c) x ⌝ }
-{
-    rings::prev(b, links(n, c), x)
 }
 
 // The node after node x in the log; 0 where the numbers are out of range.

@@ -52,9 +52,6 @@ stops-by xs n s e {i} d ej er = rw (ne-eqb i s d, er, ej)
 pub looked-up : (xs : List ℕ) (x : ℕ) (n c : ℕ) {o r : ℕ} → o ≡ linksAt n c → r ≡ nextOf xs o x → r ≡ nextOf xs (linksAt n c) x
 looked-up xs x n c eo er = rw (← eo) er
 
-pub looked-back : (xs : List ℕ) (x : ℕ) (n c : ℕ) {o r : ℕ} → o ≡ linksAt n c → r ≡ prevOf xs o x → r ≡ prevOf xs (linksAt n c) x
-looked-back xs x n c eo er = rw (← eo) er
-
 pub prev-of : (xs : List ℕ) (o : ℕ) {u w r : ℕ} → r ≡ prevOf xs o u → u ≡ w → r ≡ prevOf xs o w
 prev-of xs o e q = e ∙ ap (λ (i : ℕ). prevOf xs o i) q
 
