@@ -24,7 +24,7 @@ use Rattle.bench_command.specs.Lines.{commandLine, FitsAll, outputOf, LineSaid,
 use Rattle.bench_parsing.specs.Promises.{Parses}
 use Rattle.bench_printing.specs.Promises.{Prints}
 use Rattle.bench_answers.specs.Shown.{callOf, entryLines, linesOf, openLines}
-use Rattle.bench_answers.specs.Promises.{Written, InText, Opening, Obeyed, Replied, obeyed, unread}
+use Rattle.bench_answers.specs.Promises.{Written, InText, OpensBench, Obeyed, Replied, obeyed, unread}
 use Rattle.bench_answers.specs.Steps.{ObeysCommand}
 use Rattle.bench_answers.proofs.Printed.{one-line}
 
@@ -126,11 +126,11 @@ module _ {line xs before : List ℕ} {r : ℕ} {p : Parsed} (room : 6240 ≤ len
 -- ---- the opening
 
 module _ {plan xs before ys : List ℕ} {a : OpenAnswer} (room : 6240 ≤ length before) (O : Opens plan 64 64 xs a ys) where
-  pub opens-done : a ≡ Open.Done → InText (Opening plan xs ys) xs before 0 ys before
+  pub opens-done : a ≡ Open.Done → InText (OpensBench plan xs ys) xs before 0 ys before
   unfolding openLines
   opens-done e = is-done [] room (record { answer = a; opens = O; lines = sym (ap openLines e) }) (record { text = refl; ends = refl })
 
   pub opens-refused : {r : ℕ} {after : List ℕ} (e : Refusal) → a ≡ Open.Refused e → Written (outputOf (Out.No (numberOf e))) before r after
-      → InText (Opening plan xs ys) xs before r ys after
+      → InText (OpensBench plan xs ys) xs before r ys after
   unfolding openLines
   opens-refused e q w = is-done (outputOf (Out.No (numberOf e))) room (record { answer = a; opens = O; lines = sym (ap openLines q) }) w

@@ -27,7 +27,7 @@ pub record InText (done : List ℕ → Type 0) (xs before : List ℕ) (r : ℕ) 
 -- ---- open
 
 -- "w is 64, capacity 64"; "a refused plan or opening prints that and nothing more"
-pub record Opening (plan xs ys printed : List ℕ) : Type 0 where
+pub record OpensBench (plan xs ys printed : List ℕ) : Type 0 where
   pub answer : OpenAnswer
   pub opens : Opens plan 64 64 xs answer ys
   pub lines : printed ≡ openLines answer

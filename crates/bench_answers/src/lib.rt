@@ -10,7 +10,7 @@ ghost use Rattle.bench_command.specs.declared.Command.the-variants.{Commit as A
 ghost use Rattle.bench_command.specs.declared.Output.the-variants.{No, Commit};
 ghost use Rattle.bench_command.specs.Lines.{outputOf};
 ghost use Rattle.bench_answers.specs.Shown.{entryLines, linesOf};
-ghost use Rattle.bench_answers.specs.Promises.{Written, InText, Opening, Replied};
+ghost use Rattle.bench_answers.specs.Promises.{Written, InText, OpensBench, Replied};
 ghost use Rattle.bench_answers.specs.Steps.{ObeysCommand};
 use bench_command::Command;
 use bench_command::Output;
@@ -145,7 +145,7 @@ pub fn reply(b: &mut [u8], line: &[u8], text: &mut [u8]) -> usize
 
 // A plan's engine is opened. Answers how many bytes of the text are to be printed: 0 where the opening is accepted.
 pub fn open(plan: &[u8], b: &mut [u8], text: &mut [u8]) -> usize
-    ensures { λ r. ⌜ InText (Opening (now (plan .entry)) (now (b .entry)) (now (b .exit))) (now (b .entry)) (now (text .entry)) r (now (b .exit)) (now (text .exit)) ⌝ }
+    ensures { λ r. ⌜ InText (OpensBench (now (plan .entry)) (now (b .entry)) (now (b .exit))) (now (b .entry)) (now (text .entry)) r (now (b .exit)) (now (text .exit)) ⌝ }
 {
     if text.len() < TEXT {
         return 0;

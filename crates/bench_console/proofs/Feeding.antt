@@ -9,7 +9,7 @@ use lib.ListN.{length, getD, set, take, length-append, length-set, length-take}
 use lib.Seq.{length-take-le, take-all, take-nil, take-append-le, take-suc-set}
 use Rattle.bench_command.proofs.Prefixes.{next-byte}
 use Rattle.bench_answers.specs.Promises.{Replied}
-use Rattle.bench_console.specs.Input.{Fed, unfed, inside, ends, Ended, whole, last}
+use Rattle.bench_console.specs.Input.{Consumed, unfed, inside, ends, Ended, whole, last}
 use Rattle.bench_console.specs.Steps.{Printed, Unended, Console, More, Last, ReadOn, Within, AnswersAll}
 use Rattle.bench_console.specs.declared.Read.{Read}
 use Rattle.bench_console.specs.declared.Read.the-variants.{Some, End}
@@ -113,11 +113,11 @@ rest-none {rest} {line} room z U = no-rest rest (omega (arith, room, z, U .count
 pub ends-whole : {xs input line : List ℕ} {len : ℕ} {ys : List ℕ} → 128 ≤ length line → len ≤ 0 → Console xs input line len ys → Last xs input ys
 ends-whole {xs} {input} {line} {len} {ys} room z C = record {
   printed = C .printed;
-  ended = whole (subst (λ (l : List ℕ). Fed xs input l ys (C .printed)) (rest-none room z (C .unended)) (C .fed));
+  ended = whole (subst (λ (l : List ℕ). Consumed xs input l ys (C .printed)) (rest-none room z (C .unended)) (C .fed));
 }
 
 -- a line is left
-ends-rest : {xs input ys zs : List ℕ} (rest : List ℕ) {printed more : List ℕ} → 0 < length rest → Fed xs input rest ys printed
+ends-rest : {xs input ys zs : List ℕ} (rest : List ℕ) {printed more : List ℕ} → 0 < length rest → Consumed xs input rest ys printed
     → Replied rest ys zs more → Last xs input zs
 ends-rest [] h F R = absurd (omega arith)
 ends-rest (b ∷ bs) {printed} {more} h F R = record { printed = printed ++ more; ended = last F R }

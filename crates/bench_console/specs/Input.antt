@@ -5,13 +5,13 @@ use Prim.Native.Nat.{ℕ}
 use Rattle.bench_answers.specs.Promises.{Replied}
 
 -- "A line ends with byte 10": of the input so far, the bytes of it after its last line's end, the buffer ys, and all that is printed
-pub data Fed (xs : List ℕ) : List ℕ → List ℕ → List ℕ → List ℕ → Type 0 where
-  unfed : Fed xs [] [] xs []
-  inside : {input rest ys printed : List ℕ} (b : ℕ) → (b ≡ 10 → ⊥) → Fed xs input rest ys printed → Fed xs (input ++ b ∷ []) (rest ++ b ∷ []) ys printed
-  ends : {input rest ys printed zs more : List ℕ} → Fed xs input rest ys printed → Replied rest ys zs more
-      → Fed xs (input ++ 10 ∷ []) [] zs (printed ++ more)
+pub data Consumed (xs : List ℕ) : List ℕ → List ℕ → List ℕ → List ℕ → Type 0 where
+  unfed : Consumed xs [] [] xs []
+  inside : {input rest ys printed : List ℕ} (b : ℕ) → (b ≡ 10 → ⊥) → Consumed xs input rest ys printed → Consumed xs (input ++ b ∷ []) (rest ++ b ∷ []) ys printed
+  ends : {input rest ys printed zs more : List ℕ} → Consumed xs input rest ys printed → Replied rest ys zs more
+      → Consumed xs (input ++ 10 ∷ []) [] zs (printed ++ more)
 
 -- "the last one may lack it": the input has ended
 pub data Ended (xs input : List ℕ) : List ℕ → List ℕ → Type 0 where
-  whole : {ys printed : List ℕ} → Fed xs input [] ys printed → Ended xs input ys printed
-  last : {b : ℕ} {bs ys printed zs more : List ℕ} → Fed xs input (b ∷ bs) ys printed → Replied (b ∷ bs) ys zs more → Ended xs input zs (printed ++ more)
+  whole : {ys printed : List ℕ} → Consumed xs input [] ys printed → Ended xs input ys printed
+  last : {b : ℕ} {bs ys printed zs more : List ℕ} → Consumed xs input (b ∷ bs) ys printed → Replied (b ∷ bs) ys zs more → Ended xs input zs (printed ++ more)

@@ -7,7 +7,7 @@ use lib.ListN.{length, take}
 use Rattle.bench_answers.specs.Promises.{Replied}
 use Rattle.bench_console.specs.declared.Read.{Read}
 use Rattle.bench_console.specs.declared.Read.the-variants.{Some, End}
-use Rattle.bench_console.specs.Input.{Fed, Ended}
+use Rattle.bench_console.specs.Input.{Consumed, Ended}
 
 -- a line is answered
 pub record Printed (line xs ys : List ℕ) : Type 0 where
@@ -23,7 +23,7 @@ pub record Unended (rest line : List ℕ) (len : ℕ) : Type 0 where
 pub record Console (xs input line : List ℕ) (len : ℕ) (ys : List ℕ) : Type 0 where
   pub rest : List ℕ
   pub printed : List ℕ
-  pub fed : Fed xs input rest ys printed
+  pub fed : Consumed xs input rest ys printed
   pub unended : Unended rest line len
 
 pub record More (xs input line : List ℕ) (len : ℕ) (ys : List ℕ) : Type 0 where
@@ -49,4 +49,4 @@ pub record AnswersAll (xs ys : List ℕ) : Type 0 where
   pub input : List ℕ
   pub printed : List ℕ
   pub rest : List ℕ
-  pub answers : Ended xs input ys printed ⊎ Fed xs input rest ys printed
+  pub answers : Ended xs input ys printed ⊎ Consumed xs input rest ys printed

@@ -1,4 +1,5 @@
 -- What is read is taken; where nothing is, the line that has not ended is the last.
+use Prim.Native.Nat.{_<_}
 use native.Mathlib.Omega.{arith}
 use borrow.Author.Needs.{needs}
 use lib.ListN.{take}
@@ -11,7 +12,8 @@ returns c =
     let at-answer = c .before .before in
     let at-if2 = at-answer .before .before .before in
     let at-pre = at-if2 .before .before .before .before .before .before .before .before .before in
-    (tt, λ xs input C. ends-last (at-pre .pre .1) (at-if2 .if2 .taken) (at-answer .answer .ensures) C)
+    let some : 0 < at-pre .args .len = omega (arith, at-if2 .if2 .taken) in
+    (tt, λ xs input C. ends-last (at-pre .pre .1) some (at-answer .answer .ensures) C)
 
 returns-2 : tie.Need-returns-2
 returns-2 c = (tt, λ xs input C. ends-whole (c .before .before .before .before .before .before .before .before .before .pre .1) (c .if2 .left) C)
