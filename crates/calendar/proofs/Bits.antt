@@ -12,7 +12,7 @@ use Rattle.words.proofs.Laws.{load-lt}
 use Rattle.calendar_bitmap.specs.Child.{child}
 use Rattle.calendar_bitmap.proofs.ChildLaws.{leading-first}
 use Rattle.calendar_buckets.specs.Cells.{halfAt}
-use Rattle.calendar_buckets.specs.Table.{dueOf, bucketOf, nodeOf, rootOf, bucketHead, Due, Table}
+use Rattle.calendar_buckets.specs.Table.{dueOf, bucketOf, nodeWord, rootOf, bucketHead, Due, Table}
 use Rattle.calendar_buckets.proofs.TreeLaws.{set-above, some-above, some-below}
 use Rattle.calendar_buckets.proofs.Heads.{head-station, head-some}
 use Rattle.calendar.specs.Ring.{slotOfTime, leafIn, ringEnd}
@@ -42,29 +42,29 @@ half-lt k xs b = load-lt 2 (2112 + 2 * k) xs b
 
 module _ (xs : List ℕ) (T : Table xs) (r i : ℕ) (lr : r < 16) (li : i < 16) where
   -- a node that is not 0 has a child that is set
-  some-child : AllBytes xs → (nodeOf xs (r * 16 + i) ≡ 0 → ⊥) → (k : ℕ) × (k < 16) × (child 16 (nodeOf xs (r * 16 + i)) k ≡ 1)
+  some-child : AllBytes xs → (nodeWord xs (r * 16 + i) ≡ 0 → ⊥) → (k : ℕ) × (k < 16) × (child 16 (nodeWord xs (r * 16 + i)) k ≡ 1)
   some-child b nz =
-      let F = leading-first 16 (nodeOf xs (r * 16 + i)) (half-lt (5121 + (r * 16 + i)) xs b) in
-      (leadingZeros 16 (nodeOf xs (r * 16 + i)), F .some nz, F .set (F .some nz))
+      let F = leading-first 16 (nodeWord xs (r * 16 + i)) (half-lt (5121 + (r * 16 + i)) xs b) in
+      (leadingZeros 16 (nodeWord xs (r * 16 + i)), F .some nz, F .set (F .some nz))
 
-  node-head : (k : ℕ) → k < 16 → child 16 (nodeOf xs (r * 16 + i)) k ≡ 1 → bucketHead xs ((r * 16 + i) * 16 + k) ≡ 0 → ⊥
+  node-head : (k : ℕ) → k < 16 → child 16 (nodeWord xs (r * 16 + i)) k ≡ 1 → bucketHead xs ((r * 16 + i) * 16 + k) ≡ 0 → ⊥
   node-head k lk e =
       let d : ((r * 16 + i) * 16 + k) / 16 ≡ r * 16 + i = omega arith in
       let m : ((r * 16 + i) * 16 + k) % 16 ≡ k = omega arith in
-      some-below 16 4352 (nodeOf xs) (bucketHead xs) ((r * 16 + i) * 16 + k) (T .tree .leaves) (omega arith) (ap₂ (λ (x y : ℕ). child 16 (nodeOf xs x) y) d m ∙ e)
+      some-below 16 4352 (nodeWord xs) (bucketHead xs) ((r * 16 + i) * 16 + k) (T .tree .leaves) (omega arith) (ap₂ (λ (x y : ℕ). child 16 (nodeWord xs x) y) d m ∙ e)
 
-  head-node : (k : ℕ) → k < 16 → (bucketHead xs ((r * 16 + i) * 16 + k) ≡ 0 → ⊥) → child 16 (nodeOf xs (r * 16 + i)) k ≡ 1
+  head-node : (k : ℕ) → k < 16 → (bucketHead xs ((r * 16 + i) * 16 + k) ≡ 0 → ⊥) → child 16 (nodeWord xs (r * 16 + i)) k ≡ 1
   head-node k lk nz =
       let d : ((r * 16 + i) * 16 + k) / 16 ≡ r * 16 + i = omega arith in
       let m : ((r * 16 + i) * 16 + k) % 16 ≡ k = omega arith in
-      ap₂ (λ (x y : ℕ). child 16 (nodeOf xs x) y) (sym d) (sym m)
-      ∙ set-above 16 4352 (nodeOf xs) (bucketHead xs) ((r * 16 + i) * 16 + k) (T .tree .leaves) (omega arith) nz
+      ap₂ (λ (x y : ℕ). child 16 (nodeWord xs x) y) (sym d) (sym m)
+      ∙ set-above 16 4352 (nodeWord xs) (bucketHead xs) ((r * 16 + i) * 16 + k) (T .tree .leaves) (omega arith) nz
 
-  root-node : child 16 (rootOf xs r) i ≡ 1 → nodeOf xs (r * 16 + i) ≡ 0 → ⊥
+  root-node : child 16 (rootOf xs r) i ≡ 1 → nodeWord xs (r * 16 + i) ≡ 0 → ⊥
   root-node e =
       let d : (r * 16 + i) / 16 ≡ r = omega arith in
       let m : (r * 16 + i) % 16 ≡ i = omega arith in
-      some-below 16 272 (rootOf xs) (nodeOf xs) (r * 16 + i) (T .tree .nodes) (omega arith) (ap₂ (λ (x y : ℕ). child 16 (rootOf xs x) y) d m ∙ e)
+      some-below 16 272 (rootOf xs) (nodeWord xs) (r * 16 + i) (T .tree .nodes) (omega arith) (ap₂ (λ (x y : ℕ). child 16 (rootOf xs x) y) d m ∙ e)
 
   head-root : (k : ℕ) → k < 16 → (bucketHead xs ((r * 16 + i) * 16 + k) ≡ 0 → ⊥) → child 16 (rootOf xs r) i ≡ 1
   head-root k lk nz =
@@ -72,8 +72,8 @@ module _ (xs : List ℕ) (T : Table xs) (r i : ℕ) (lr : r < 16) (li : i < 16) 
       let f : (r * 16 + i) / 16 ≡ r = omega arith in
       let m : (r * 16 + i) % 16 ≡ i = omega arith in
       ap₂ (λ (x y : ℕ). child 16 (rootOf xs x) y) (sym f) (sym m)
-      ∙ set-above 16 272 (rootOf xs) (nodeOf xs) (r * 16 + i) (T .tree .nodes) (omega arith)
-      (λ z. some-above 16 4352 (nodeOf xs) (bucketHead xs) ((r * 16 + i) * 16 + k) (T .tree .leaves) (omega arith) nz (ap (nodeOf xs) d ∙ z))
+      ∙ set-above 16 272 (rootOf xs) (nodeWord xs) (r * 16 + i) (T .tree .nodes) (omega arith)
+      (λ z. some-above 16 4352 (nodeWord xs) (bucketHead xs) ((r * 16 + i) * 16 + k) (T .tree .leaves) (omega arith) nz (ap (nodeWord xs) d ∙ z))
 
 -- ---- the bits over the times
 
@@ -138,11 +138,11 @@ module _ (xs : List ℕ) (S : Sound xs) (r i : ℕ) (lr : r < 16) (li : i < 16) 
           head-root xs (S .table) r i lr li k (omega arith) (registered-filled k (λ c. c / 16 ≡ i) G e)
 
   -- a child of a node is a leaf: set exactly when a station is registered there
-  pub node-bit : (k : ℕ) → k < 16 → (child 16 (nodeOf xs (r * 16 + i)) k ≡ 1) ↔ RegisteredIn (stateOf xs) r (λ c. c ≡ i * 16 + k)
+  pub node-bit : (k : ℕ) → k < 16 → (child 16 (nodeWord xs (r * 16 + i)) k ≡ 1) ↔ RegisteredIn (stateOf xs) r (λ c. c ≡ i * 16 + k)
   node-bit k lk = (down, up)
     where
-      down : child 16 (nodeOf xs (r * 16 + i)) k ≡ 1 → RegisteredIn (stateOf xs) r (λ c. c ≡ i * 16 + k)
+      down : child 16 (nodeWord xs (r * 16 + i)) k ≡ 1 → RegisteredIn (stateOf xs) r (λ c. c ≡ i * 16 + k)
       down e = filled-registered k lk (λ c. c ≡ i * 16 + k) refl (node-head xs (S .table) r i lr li k lk e)
 
-      up : RegisteredIn (stateOf xs) r (λ c. c ≡ i * 16 + k) → child 16 (nodeOf xs (r * 16 + i)) k ≡ 1
+      up : RegisteredIn (stateOf xs) r (λ c. c ≡ i * 16 + k) → child 16 (nodeWord xs (r * 16 + i)) k ≡ 1
       up G = head-node xs (S .table) r i lr li k lk (registered-filled k (λ c. c ≡ i * 16 + k) G (G .leaf))

@@ -49,6 +49,7 @@ refused-idle xs n e = go (noneRegistered (stateOf xs .times)) refl
 
 names-none : (xs : List ℕ) → (Sound xs → noneRegistered (stateOf xs .times) ≡ true) → Names xs (Refused Idle)
 names-none xs h = record {
+  idle = λ e q. let z : Idle ≡ e = cc in sym z;
   answer = λ S. idle xs (h S);
   least = λ S s t e. absurd (let z : _≡_ {A = ℕ} 0 1 = cc in omega arith);
 }
@@ -70,6 +71,7 @@ module _ (xs : List ℕ) (h : ℕ) (F : Sound xs → FirstOf xs h) where
 
     pub names-at : (d ≡ 0 → ⊥) → Names xs (At (h - 1) (d - 1))
     names-at dz = record {
+      idle = λ e q. let z : _≡_ {A = ℕ} 0 1 = cc in absurd (omega arith);
       answer = λ S. busy xs (none-false (stateOf xs .times) (h - 1) (d - 1) (has S));
       least = λ S s t e.
           let es : h - 1 ≡ s = cc in

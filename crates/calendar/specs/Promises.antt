@@ -4,6 +4,7 @@ use mathlib.Core.List.{List}
 use Prim.Native.Nat.{ℕ}
 use lib.ListN.{length}
 use Rattle.refusal.specs.declared.Refusal.{Refusal}
+use Rattle.refusal.specs.declared.Refusal.the-variants.{Idle}
 use Rattle.refusal.specs.Numbers.{numberOf}
 use Rattle.refusal.specs.Tests.{Check, Verdict, accepted, refused, judged}
 use Rattle.calendar.specs.declared.Answer.{Answer}
@@ -32,7 +33,9 @@ pub record Obeys (checks : Calendar → List Check) (after : Calendar → Calend
   pub state : Sound xs → r ≡ Done → stateOf ys ≡ after (stateOf xs)
   pub sound : Sound xs → Sound ys
 
+-- its refusal is 14, on any bytes
 pub record Names (xs : List ℕ) (r : Least) : Type 0 where
+  pub idle : (e : Refusal) → r ≡ NoLeast e → e ≡ Idle
   pub answer : Sound xs → leastVerdict r ≡ judged (lowestChecks (stateOf xs))
   pub least : Sound xs → (s t : ℕ) → r ≡ At s t → LeastAt (stateOf xs .times) s t
 

@@ -9,7 +9,7 @@ use Rattle.refusal.specs.Tests.{horizon}
 use Rattle.calendar_buckets.specs.Cells.{halfAt}
 use Rattle.calendar_buckets.specs.Lists.{Live, Lists}
 use Rattle.calendar_buckets.specs.Tree.{Tree}
-use Rattle.calendar_buckets.specs.Table.{dueOf, bucketOf, nextPlace, prevPlace, nodeOf, rootOf, bucketHead, Due, Table, Changed}
+use Rattle.calendar_buckets.specs.Table.{dueOf, bucketOf, nextPlace, prevPlace, nodeWord, rootOf, bucketHead, Due, Table, Changed}
 use Rattle.calendar_buckets.specs.Steps.{Chained}
 use Rattle.words.proofs.Cases.{eq-or}
 use Rattle.calendar_buckets.proofs.TreeLaws.{sums-same}
@@ -26,11 +26,11 @@ next-most xs T p lp r = go (nextPlace xs p) refl
     go (suc m) e = let l = T .lists .front p lp r m e .station in omega arith
 
 -- the tree depends on the bits' words only
-pub tree-same : (head : ℕ → ℕ) (xs ys : List ℕ) → ((k : ℕ) → 5121 ≤ k → halfAt k ys ≡ halfAt k xs) → Tree 16 17 head (nodeOf xs) (rootOf xs)
-    → Tree 16 17 head (nodeOf ys) (rootOf ys)
+pub tree-same : (head : ℕ → ℕ) (xs ys : List ℕ) → ((k : ℕ) → 5121 ≤ k → halfAt k ys ≡ halfAt k xs) → Tree 16 17 head (nodeWord xs) (rootOf xs)
+    → Tree 16 17 head (nodeWord ys) (rootOf ys)
 tree-same head xs ys h T = record {
-  leaves = sums-same 16 4352 (nodeOf xs) head (nodeOf ys) head (λ l lk. h _ (omega arith)) (λ l lk. refl) (T .leaves);
-  nodes = sums-same 16 272 (rootOf xs) (nodeOf xs) (rootOf ys) (nodeOf ys) (λ l lk. h _ (omega arith)) (λ l lk. h (5121 + l) (omega arith)) (T .nodes);
+  leaves = sums-same 16 4352 (nodeWord xs) head (nodeWord ys) head (λ l lk. h _ (omega arith)) (λ l lk. refl) (T .leaves);
+  nodes = sums-same 16 272 (rootOf xs) (nodeWord xs) (rootOf ys) (nodeWord ys) (λ l lk. h _ (omega arith)) (λ l lk. h (5121 + l) (omega arith)) (T .nodes);
 }
 
 module _
@@ -39,7 +39,7 @@ module _
     (buckets : (x : ℕ) → x < 256 → (x ≡ s → ⊥) → bucketOf us x ≡ bucketOf xs x)
     (most : v ≤ suc horizon)
     (right : (v ≡ 0 → ⊥) → (bucketOf us s < 4352) × (4096 ≤ bucketOf us s → bucketOf us s ≡ 4096 + s))
-    (L : Lists 4608 (bucketOf us) (dueOf us) (nextPlace us) (prevPlace us)) (B : Tree 16 17 (bucketHead us) (nodeOf us) (rootOf us))
+    (L : Lists 4608 (bucketOf us) (dueOf us) (nextPlace us) (prevPlace us)) (B : Tree 16 17 (bucketHead us) (nodeWord us) (rootOf us))
   where
     until : (x : ℕ) → x < 256 → (x ≡ s) ⊎ (x ≡ s → ⊥) → dueOf us x ≤ suc horizon
     until x l (inl e) = rw (e, this) most

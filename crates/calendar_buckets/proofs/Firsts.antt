@@ -5,7 +5,7 @@ use mathlib.Core.List.{List}
 use Prim.Native.Nat.{ℕ, suc, _+_, _-_, _*_, _/_, _%_, _≤_, _<_}
 use native.Mathlib.Omega.{arith}
 use Rattle.calendar_bitmap.specs.Child.{child, FirstChild}
-use Rattle.calendar_buckets.specs.Table.{bucketOf, nodeOf, rootOf, bucketHead, turnsTo, Due, Table, NotAfter, First}
+use Rattle.calendar_buckets.specs.Table.{bucketOf, nodeWord, rootOf, bucketHead, turnsTo, Due, Table, NotAfter, First}
 use Rattle.calendar_buckets.specs.Steps.{FirstLeaf, HeadOf}
 use Rattle.words.proofs.Cases.{eq-or, lt-or}
 use Rattle.calendar_buckets.proofs.TreeLaws.{set-above, some-above, some-below}
@@ -34,17 +34,17 @@ turns-in slot i k ls li lk e = omega arith
 
 module _ (xs : List ℕ) (T : Table xs) where
   -- the bits above a filled leaf
-  node-above : (k : ℕ) → k < 4352 → Filled xs k → nodeOf xs (k / 16) ≡ 0 → ⊥
-  node-above k l f = some-above 16 4352 (nodeOf xs) (bucketHead xs) k (T .tree .leaves) l f
+  node-above : (k : ℕ) → k < 4352 → Filled xs k → nodeWord xs (k / 16) ≡ 0 → ⊥
+  node-above k l f = some-above 16 4352 (nodeWord xs) (bucketHead xs) k (T .tree .leaves) l f
 
-  node-bit : (k : ℕ) → k < 4352 → Filled xs k → child 16 (nodeOf xs (k / 16)) (k % 16) ≡ 1
-  node-bit k l f = set-above 16 4352 (nodeOf xs) (bucketHead xs) k (T .tree .leaves) l f
+  node-bit : (k : ℕ) → k < 4352 → Filled xs k → child 16 (nodeWord xs (k / 16)) (k % 16) ≡ 1
+  node-bit k l f = set-above 16 4352 (nodeWord xs) (bucketHead xs) k (T .tree .leaves) l f
 
   root-above : (k : ℕ) → k < 4352 → Filled xs k → rootOf xs (k / 16 / 16) ≡ 0 → ⊥
-  root-above k l f = some-above 16 272 (rootOf xs) (nodeOf xs) (k / 16) (T .tree .nodes) (omega arith) (node-above k l f)
+  root-above k l f = some-above 16 272 (rootOf xs) (nodeWord xs) (k / 16) (T .tree .nodes) (omega arith) (node-above k l f)
 
   root-bit : (k : ℕ) → k < 4352 → Filled xs k → child 16 (rootOf xs (k / 16 / 16)) (k / 16 % 16) ≡ 1
-  root-bit k l f = set-above 16 272 (rootOf xs) (nodeOf xs) (k / 16) (T .tree .nodes) (omega arith) (node-above k l f)
+  root-bit k l f = set-above 16 272 (rootOf xs) (nodeWord xs) (k / 16) (T .tree .nodes) (omega arith) (node-above k l f)
 
   module _ (slot i x : ℕ) (ls : slot < 16) (li : i < 16) (P : Passed xs slot i) (ex : x ≡ rootOf xs ((slot + i) % 16)) where
     pub pass-on : x ≡ 0 → Passed xs slot (i + 1)
@@ -57,7 +57,7 @@ module _ (xs : List ℕ) (T : Table xs) where
             let q : k / 16 / 16 ≡ (slot + i) % 16 = omega arith in
             absurd (root-above k (omega arith) f (ap (rootOf xs) q ∙ sym ex ∙ z))
 
-    module _ (f y g : ℕ) (nz : x ≡ 0 → ⊥) (F : FirstChild 16 x f) (ey : y ≡ nodeOf xs ((slot + i) % 16 * 16 + f)) (G : FirstChild 16 y g) where
+    module _ (f y g : ℕ) (nz : x ≡ 0 → ⊥) (F : FirstChild 16 x f) (ey : y ≡ nodeWord xs ((slot + i) % 16 * 16 + f)) (G : FirstChild 16 y g) where
       r : ℕ
       r = (slot + i) % 16
 
@@ -72,7 +72,7 @@ module _ (xs : List ℕ) (T : Table xs) where
 
       y-some : y ≡ 0 → ⊥
       y-some z =
-          some-below 16 272 (rootOf xs) (nodeOf xs) ((slot + i) % 16 * 16 + f) (T .tree .nodes) (let h = lf in omega arith)
+          some-below 16 272 (rootOf xs) (nodeWord xs) ((slot + i) % 16 * 16 + f) (T .tree .nodes) (let h = lf in omega arith)
           (ap (λ (m : ℕ). child 16 (rootOf xs m) (((slot + i) % 16 * 16 + f) % 16)) j-div ∙ ap (child 16 (rootOf xs ((slot + i) % 16))) j-mod
           ∙ ap (λ (m : ℕ). child 16 m f) (sym ex) ∙ F .set lf)
           (sym ey ∙ z)
@@ -115,15 +115,15 @@ module _ (xs : List ℕ) (T : Table xs) where
           go (inr h) (inl n) (inl m) =
               let kj : k / 16 ≡ (slot + i) % 16 * 16 + f = omega arith in
               let b : _≡_ {A = ℕ} 1 0 =
-              sym (node-bit k (omega arith) fk) ∙ ap (λ (u : ℕ). child 16 (nodeOf xs u) (k % 16)) kj ∙ ap (λ (u : ℕ). child 16 u (k % 16)) (sym ey)
+              sym (node-bit k (omega arith) fk) ∙ ap (λ (u : ℕ). child 16 (nodeWord xs u) (k % 16)) kj ∙ ap (λ (u : ℕ). child 16 u (k % 16)) (sym ey)
               ∙ G .before (k % 16) m in
               absurd (omega arith)
 
       pub pass-stop : FirstLeaf xs slot (((slot + i) % 16 * 16 + f) * 16 + g)
       pass-stop = record {
         filled = λ _.
-            some-below 16 4352 (nodeOf xs) (bucketHead xs) (((slot + i) % 16 * 16 + f) * 16 + g) (T .tree .leaves) (let h = l-lt in omega arith)
-            (ap (λ (m : ℕ). child 16 (nodeOf xs m) ((((slot + i) % 16 * 16 + f) * 16 + g) % 16)) l-div ∙ ap (child 16 (nodeOf xs ((slot + i) % 16 * 16 + f))) l-mod
+            some-below 16 4352 (nodeWord xs) (bucketHead xs) (((slot + i) % 16 * 16 + f) * 16 + g) (T .tree .leaves) (let h = l-lt in omega arith)
+            (ap (λ (m : ℕ). child 16 (nodeWord xs m) ((((slot + i) % 16 * 16 + f) * 16 + g) % 16)) l-div ∙ ap (child 16 (nodeWord xs ((slot + i) % 16 * 16 + f))) l-mod
             ∙ ap (λ (m : ℕ). child 16 m g) (sym ey) ∙ G .set lg);
         first = λ k l fk. (l-lt, go k l fk (eq-or (k / 256) ((slot + i) % 16)));
       }

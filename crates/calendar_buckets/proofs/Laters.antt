@@ -6,7 +6,7 @@ use Prim.Native.Nat.{ℕ, _+_, _-_, _*_, _/_, _%_, _≤_, _<_}
 use native.Mathlib.Omega.{arith}
 use Rattle.calendar_bitmap.specs.Child.{child, FirstFrom}
 use Rattle.calendar_buckets.specs.Cells.{halfAt}
-use Rattle.calendar_buckets.specs.Table.{nodeOf, bucketHead, Table, Waits, Later}
+use Rattle.calendar_buckets.specs.Table.{nodeWord, bucketHead, Table, Waits, Later}
 use Rattle.words.proofs.Cases.{lt-or}
 use Rattle.calendar_buckets.proofs.TreeLaws.{set-above, some-below}
 use Rattle.calendar_buckets.proofs.Heads.{waits-head, head-waits}
@@ -28,9 +28,9 @@ module _ (xs : List ℕ) (T : Table xs) where
       let a : (4096 + x) / 16 ≡ 256 + x / 16 = omega arith in
       let b : (4096 + x) % 16 ≡ x % 16 = omega arith in
       let c : 5377 + x / 16 ≡ 5121 + (256 + x / 16) = omega arith in
-      ap (λ (m : ℕ). child 16 (halfAt m xs) (x % 16)) c ∙ ap (λ (m : ℕ). child 16 (nodeOf xs m) (x % 16)) (sym a)
-      ∙ ap (child 16 (nodeOf xs ((4096 + x) / 16))) (sym b)
-      ∙ set-above 16 4352 (nodeOf xs) (bucketHead xs) (4096 + x) (T .tree .leaves) (omega arith) (waits-head xs T x l w)
+      ap (λ (m : ℕ). child 16 (halfAt m xs) (x % 16)) c ∙ ap (λ (m : ℕ). child 16 (nodeWord xs m) (x % 16)) (sym a)
+      ∙ ap (child 16 (nodeWord xs ((4096 + x) / 16))) (sym b)
+      ∙ set-above 16 4352 (nodeWord xs) (bucketHead xs) (4096 + x) (T .tree .leaves) (omega arith) (waits-head xs T x l w)
 
   bit-waits : (x : ℕ) → x < 256 → child 16 (halfAt (5377 + x / 16) xs) (x % 16) ≡ 1 → Waits xs x
   bit-waits x l e =
@@ -38,8 +38,8 @@ module _ (xs : List ℕ) (T : Table xs) where
       let b : (4096 + x) % 16 ≡ x % 16 = omega arith in
       let c : 5377 + x / 16 ≡ 5121 + (256 + x / 16) = omega arith in
       head-waits xs T x l
-      (some-below 16 4352 (nodeOf xs) (bucketHead xs) (4096 + x) (T .tree .leaves) (omega arith)
-      (ap (child 16 (nodeOf xs ((4096 + x) / 16))) b ∙ ap (λ (m : ℕ). child 16 (nodeOf xs m) (x % 16)) a
+      (some-below 16 4352 (nodeWord xs) (bucketHead xs) (4096 + x) (T .tree .leaves) (omega arith)
+      (ap (child 16 (nodeWord xs ((4096 + x) / 16))) b ∙ ap (λ (m : ℕ). child 16 (nodeWord xs m) (x % 16)) a
       ∙ ap (λ (m : ℕ). child 16 (halfAt m xs) (x % 16)) (sym c) ∙ e))
 
   module _ (from s y c : ℕ) (ls : s < 256) (N : NoneTo xs from s) (ey : y ≡ halfAt (5377 + s / 16) xs) (F : FirstFrom 16 y (s % 16) c) where

@@ -13,7 +13,7 @@ use Rattle.calendar_bitmap.specs.Child.{child, WithChild}
 use Rattle.calendar_bitmap.proofs.ChildLaws.{child-zero}
 use Rattle.calendar_buckets.specs.Cells.{wordAt, halfAt, putHalf}
 use Rattle.calendar_buckets.specs.Tree.{Sums}
-use Rattle.calendar_buckets.specs.Table.{nodeOf, rootOf, bucketHead}
+use Rattle.calendar_buckets.specs.Table.{nodeWord, rootOf, bucketHead}
 use Rattle.calendar_buckets.specs.Steps.{Refreshed, Raised, Lowered}
 use Rattle.calendar_buckets.proofs.CellLaws.{length-half, word-half, half-same, half-other}
 use Rattle.calendar_buckets.proofs.TreeLaws.{sums-set, sums-same, sums-filled, some-above}
@@ -25,7 +25,7 @@ lower-nothing list xs f = record {
   words = λ i l. refl;
   links = λ k l. refl;
   tree = λ _ _ head was same T. record {
-    leaves = sums-filled 16 4352 (nodeOf xs) head (nodeOf xs) (bucketHead xs) list was f (λ k l. refl) same (T .leaves);
+    leaves = sums-filled 16 4352 (nodeWord xs) head (nodeWord xs) (bucketHead xs) list was f (λ k l. refl) same (T .leaves);
     nodes = T .nodes;
   };
 }
@@ -45,15 +45,15 @@ module _
     y-word i h = ap (wordAt i) ey ∙ word-half (5121 + list / 16) y xs i h
 
     module _ (long : 12932 ≤ length xs) where
-      y-this : nodeOf ys (list / 16) ≡ y
+      y-this : nodeWord ys (list / 16) ≡ y
       y-this = ap (halfAt (5121 + list / 16)) ey ∙ half-same (5121 + list / 16) y xs (omega arith) long (Y .fits)
 
       -- the bits of the nodes are right where the one that is written says whether the bucket is empty
       y-leaves : on ≡ ltb 0 (bucketHead xs list) → (head : ℕ → ℕ) → ((k : ℕ) → k < 4352 → (k ≡ list → ⊥) → bucketHead xs k ≡ head k)
-          → Sums 16 4352 (nodeOf xs) head → Sums 16 4352 (nodeOf ys) (bucketHead ys)
+          → Sums 16 4352 (nodeWord xs) head → Sums 16 4352 (nodeWord ys) (bucketHead ys)
       y-leaves e head same S =
-          sums-set 16 4352 (nodeOf xs) head (nodeOf ys) (bucketHead ys) list (lit< tt)
-          (rw (y-this, y-other (256 + list) (omega arith)) (subst (λ (b : Bool). WithChild 16 (nodeOf xs (list / 16)) (list % 16) b y) e Y))
+          sums-set 16 4352 (nodeWord xs) head (nodeWord ys) (bucketHead ys) list (lit< tt)
+          (rw (y-this, y-other (256 + list) (omega arith)) (subst (λ (b : Bool). WithChild 16 (nodeWord xs (list / 16)) (list % 16) b y) e Y))
           (λ k lk ne. y-other (5121 + k / 16) (λ q. ne (omega arith)))
           (λ k lk ne. y-other (256 + k) (omega arith) ∙ same k lk ne)
           S
@@ -72,21 +72,21 @@ module _
           z-this : rootOf zs (list / 256) ≡ x
           z-this = ap (halfAt (5393 + list / 256)) ez ∙ half-same (5393 + list / 256) x ys (omega arith) (rw y-size long) (X .fits)
 
-          node-this : nodeOf zs (list / 16) ≡ y
+          node-this : nodeWord zs (list / 16) ≡ y
           node-this = z-other (5121 + list / 16) (omega arith) ∙ y-this long
 
-          z-nodes : on ≡ ltb 0 y → Sums 16 272 (rootOf xs) (nodeOf xs) → Sums 16 272 (rootOf zs) (nodeOf zs)
+          z-nodes : on ≡ ltb 0 y → Sums 16 272 (rootOf xs) (nodeWord xs) → Sums 16 272 (rootOf zs) (nodeWord zs)
           z-nodes e S =
-              sums-set 16 272 (rootOf xs) (nodeOf xs) (rootOf zs) (nodeOf zs) (list / 16) (lit< tt)
+              sums-set 16 272 (rootOf xs) (nodeWord xs) (rootOf zs) (nodeWord zs) (list / 16) (lit< tt)
               (rw (above, z-this, node-this)
               (subst (λ (b : Bool). WithChild 16 (rootOf xs (list / 256)) (list / 16 % 16) b x) e (rw (y-other (5393 + list / 256) (omega arith)) at X)))
               (λ k lk ne. z-other (5393 + k / 16) (λ q. ne (omega arith)) ∙ y-other (5393 + k / 16) (omega arith))
               (λ k lk ne. z-other (5121 + k) (omega arith) ∙ y-other (5121 + k) (omega arith))
               S
 
-          z-leaves : Sums 16 4352 (nodeOf ys) (bucketHead ys) → Sums 16 4352 (nodeOf zs) (bucketHead zs)
+          z-leaves : Sums 16 4352 (nodeWord ys) (bucketHead ys) → Sums 16 4352 (nodeWord zs) (bucketHead zs)
           z-leaves S =
-              sums-same 16 4352 (nodeOf ys) (bucketHead ys) (nodeOf zs) (bucketHead zs) (λ k lk. z-other (5121 + k / 16) (omega arith))
+              sums-same 16 4352 (nodeWord ys) (bucketHead ys) (nodeWord zs) (bucketHead zs) (λ k lk. z-other (5121 + k / 16) (omega arith))
               (λ k lk. z-other (256 + k) (omega arith)) S
 
         -- both bits say whether the bucket is empty
@@ -138,8 +138,8 @@ module _
       tree = λ long _ head was same T. record {
         leaves = y-leaves list xs ys false y l ey Y long empty head same (T .leaves);
         nodes =
-            sums-filled 16 272 (rootOf xs) (nodeOf xs) (rootOf ys) (nodeOf ys) (list / 16)
-            (some-above 16 4352 (nodeOf xs) head list (T .leaves) l was)
+            sums-filled 16 272 (rootOf xs) (nodeWord xs) (rootOf ys) (nodeWord ys) (list / 16)
+            (some-above 16 4352 (nodeWord xs) head list (T .leaves) l was)
             (λ z. f (sym (y-this list xs ys false y l ey Y long) ∙ z))
             (λ k lk. other (5393 + k / 16) (omega arith))
             (λ k lk ne. other (5121 + k) (omega arith))

@@ -7,7 +7,7 @@ use Rattle.refusal.specs.Tests.{horizon}
 use Rattle.calendar_buckets.specs.Cells.{wordAt, halfAt}
 use Rattle.calendar_buckets.specs.Lists.{Live, Lists, listOf, rankOf}
 use Rattle.calendar_buckets.specs.Tree.{Tree}
-use Rattle.calendar_buckets.specs.Table.{dueOf, bucketOf, nextPlace, prevPlace, nodeOf, rootOf, bucketHead, turnsTo, Due}
+use Rattle.calendar_buckets.specs.Table.{dueOf, bucketOf, nextPlace, prevPlace, nodeWord, rootOf, bucketHead, turnsTo, Due}
 
 -- the lists are linked, whatever the bits say
 pub record Chained (xs : List ℕ) : Type 0 where
@@ -36,7 +36,7 @@ pub record Refreshed (when : (ℕ → ℕ) → Type 0) (list : ℕ) (xs ys : Lis
   pub words : (i : ℕ) → i < 264 → wordAt i ys ≡ wordAt i xs
   pub links : (k : ℕ) → k < 5121 → halfAt k ys ≡ halfAt k xs
   pub tree : 12932 ≤ length xs → list < 4352 → (head : ℕ → ℕ) → when head → ((l : ℕ) → l < 4352 → (l ≡ list → ⊥) → bucketHead xs l ≡ head l)
-      → Tree 16 17 head (nodeOf xs) (rootOf xs) → Tree 16 17 (bucketHead ys) (nodeOf ys) (rootOf ys)
+      → Tree 16 17 head (nodeWord xs) (rootOf xs) → Tree 16 17 (bucketHead ys) (nodeWord ys) (rootOf ys)
 
 -- the same of a bucket that is filled now
 abbrev pub Raised : ℕ → List ℕ → List ℕ → Type 0

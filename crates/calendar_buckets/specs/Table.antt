@@ -31,8 +31,8 @@ nextPlace xs p = halfAt p xs
 abbrev pub prevPlace : List ℕ → ℕ → ℕ
 prevPlace xs s = halfAt (4609 + s) xs
 
-abbrev pub nodeOf : List ℕ → ℕ → ℕ
-nodeOf xs j = halfAt (5121 + j) xs
+abbrev pub nodeWord : List ℕ → ℕ → ℕ
+nodeWord xs j = halfAt (5121 + j) xs
 
 abbrev pub rootOf : List ℕ → ℕ → ℕ
 rootOf xs r = halfAt (5393 + r) xs
@@ -50,7 +50,7 @@ pub record Table (xs : List ℕ) : Type 0 where
   pub own : (x : ℕ) → x < 256 → Due xs x → 4096 ≤ bucketOf xs x → bucketOf xs x ≡ 4096 + x
   pub lists : Lists 4608 (bucketOf xs) (dueOf xs) (nextPlace xs) (prevPlace xs)
   -- the 17 groups are the ring's 16 blocks and the overflow table; each stands under the paper's 17 words, 16 nodes and a root
-  pub tree : Tree 16 17 (bucketHead xs) (nodeOf xs) (rootOf xs)
+  pub tree : Tree 16 17 (bucketHead xs) (nodeWord xs) (rootOf xs)
 
 -- ---- what the calls leave
 

@@ -5,7 +5,7 @@ use mathlib.Core.List.{List, [], _∷_, _++_}
 use Prim.Native.Nat.{ℕ, _+_, _*_, _≤_}
 use lib.ListN.{length, drop}
 use Rattle.words.specs.Le.{loadAt}
-use Rattle.engine_rows.specs.Layout.{wordPlace, capacityWord, commitWord, stationsWord}
+use Rattle.engine_rows.specs.Layout.{wordPlace, capacityWord, commitTimeWord, stationsWord}
 use Rattle.refusal.specs.Numbers.{numberOf}
 use Rattle.refusal.specs.Tests.{horizon, Verdict, accepted, refused}
 use Rattle.line.specs.declared.Event.{Event}
@@ -56,7 +56,7 @@ pub record CommitPasses (n c time count room : ℕ) (xs : List ℕ) : Type 0 whe
   pub stations : n ≡ atMost 256 (loadAt 8 (wordPlace stationsWord) xs)
   pub capacity : c ≡ atMost 4096 (loadAt 8 (wordPlace capacityWord) xs)
   pub in-time : time ≤ horizon + 1
-  pub due : loadAt 8 (wordPlace commitWord) xs ≤ time
+  pub due : loadAt 8 (wordPlace commitTimeWord) xs ≤ time
   pub none-unrun : Early n c xs time false
   pub counts : Counts n c xs time count
   pub room-is : 24 * count ≤ room

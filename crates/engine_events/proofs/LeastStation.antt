@@ -9,7 +9,7 @@ use native.Mathlib.Omega.{arith}
 use lib.ListN.{length, take, drop, List·getD-eq-default}
 use Rattle.words.proofs.Cases.{lt-or}
 use Rattle.refusal.specs.declared.Refusal.{Refusal}
-use Rattle.refusal.specs.declared.Refusal.the-variants.{Shape, Pair, Trailing, Field, Name, Width, Space, Command, Station, Matter, Late, Early, Post, Idle, Unrun, Count, Full, Output}
+use Rattle.refusal.specs.declared.Refusal.the-variants.{Idle}
 use Rattle.refusal.specs.Tests.{accepted, refused, orNext, judged, says, calendarBytes}
 use Rattle.refusal.specs.Numbers.{numberOf}
 use Rattle.line.specs.Station.{Plan}
@@ -37,34 +37,6 @@ idle ts k e = go (noneRegistered ts) refl e
     go true p q = refl
     go false p q = let z : _≡_ {A = ℕ} 0 1 = cc in absurd (omega arith)
 
-says-idle : (ts : List (Option ℕ)) (e : Refusal) → refused (numberOf e) ≡ judged (says 14 (noneRegistered ts) ∷ []) → e ≡ Idle
-unfolding judged orNext
-says-idle ts e z = go (noneRegistered ts) z
-  where
-    only : (e : Refusal) → numberOf e ≡ 14 → e ≡ Idle
-    only Idle q = refl
-    only Shape q = absurd (omega (arith, q))
-    only (Pair s) q = absurd (omega (arith, q))
-    only Trailing q = absurd (omega (arith, q))
-    only (Field s) q = absurd (omega (arith, q))
-    only (Name s) q = absurd (omega (arith, q))
-    only Width q = absurd (omega (arith, q))
-    only Space q = absurd (omega (arith, q))
-    only Command q = absurd (omega (arith, q))
-    only Station q = absurd (omega (arith, q))
-    only Matter q = absurd (omega (arith, q))
-    only Late q = absurd (omega (arith, q))
-    only Early q = absurd (omega (arith, q))
-    only Post q = absurd (omega (arith, q))
-    only Unrun q = absurd (omega (arith, q))
-    only Count q = absurd (omega (arith, q))
-    only Full q = absurd (omega (arith, q))
-    only Output q = absurd (omega (arith, q))
-
-    go : (v : Bool) → refused (numberOf e) ≡ orNext v 14 accepted → e ≡ Idle
-    go true q = let k : numberOf e ≡ 14 = cc in only e k
-    go false q = let z : _≡_ {A = ℕ} 0 1 = cc in absurd (omega arith)
-
 inside : {n s t : ℕ} {ts : List (Option ℕ)} {h : List Held} → Shows n ts h → LeastAt ts s t → s < n
 inside {n} {s} {t} {ts} A L = go (lt-or s n)
   where
@@ -77,7 +49,7 @@ pub finds : (n c : ℕ) {start end : ℕ} (xs : List ℕ) {r : Least} → start 
 finds n c {start} {end} xs {r} ls le fit N =
     record {
       unfit = λ z. absurd (true≢false (sym fit ∙ z));
-      idle = λ p now q cells H e k. says-idle (stateOf (part n c xs) .times) e (rw k at (names .answer (H .calendar .sound)));
+      idle = names .idle;
       none = λ p now q cells H e k.
           let A = H .calendar .shows in
           let v : refused (numberOf e) ≡ judged (lowestChecks (stateOf (part n c xs))) = rw k at (names .answer (H .calendar .sound)) in
@@ -108,7 +80,7 @@ nothing-slot n c xs z p now q cells H = omega (arith, H .stores .some)
 pub finds-none : (n c : ℕ) (xs : List ℕ) → Nothing n c xs → Finds n c xs (NoLeast Idle)
 finds-none n c xs N = record {
   unfit = λ _. refl;
-  idle = λ p now q cells H e k. absurd (N p now q cells H);
+  idle = λ e k. let z : Idle ≡ e = cc in sym z;
   none = λ p now q cells H e k. absurd (N p now q cells H);
   some = λ p now q cells H s t k. absurd (N p now q cells H);
 }

@@ -21,7 +21,8 @@ AfterHeader xs ys = Frame 64 (length xs) xs ys
 -- a station of least time, with it; 14 where no event is unrun, and where the numbers are out of range or the buffer is too short
 pub record Finds (n c : ℕ) (xs : List ℕ) (r : Least) : Type 0 where
   pub unfit : fitsIn n c (length xs) ≡ false → r ≡ NoLeast Idle
-  pub idle : (p : Plan) (now : ℕ) (q : Queue) (cells : List Cell) → Holds p n c now xs q cells → (e : Refusal) → r ≡ NoLeast e → e ≡ Idle
+  -- its refusal is 14, on any bytes
+  pub idle : (e : Refusal) → r ≡ NoLeast e → e ≡ Idle
   pub none : (p : Plan) (now : ℕ) (q : Queue) (cells : List Cell) → Holds p n c now xs q cells → (e : Refusal) → r ≡ NoLeast e
       → noneUnrun (q .held) ≡ true
   pub some : (p : Plan) (now : ℕ) (q : Queue) (cells : List Cell) → Holds p n c now xs q cells → (s t : ℕ) → r ≡ At s t

@@ -3,7 +3,7 @@ use mathlib.Core.Path.{_≡_}
 use mathlib.Core.List.{List}
 use Prim.Native.Nat.{ℕ}
 use Rattle.words.specs.Le.{loadAt}
-use Rattle.engine_rows.specs.Layout.{wordPlace, capacityWord, commitWord, postWord, stationsWord}
+use Rattle.engine_rows.specs.Layout.{wordPlace, capacityWord, commitTimeWord, nextPostWord, stationsWord}
 use Rattle.line.specs.Station.{Plan, InRange}
 use Rattle.rules.specs.Engine.{Engine, opened}
 use Rattle.rules.specs.Demand.{Made, Calls}
@@ -26,7 +26,7 @@ pub record Represents (p : Plan) (e : Engine) (xs : List ℕ) : Type 0 where
   pub reached : Reached p e
   pub stations : loadAt 8 (wordPlace stationsWord) xs ≡ p .count
   pub capacity : loadAt 8 (wordPlace capacityWord) xs ≡ e .capacity
-  pub now : loadAt 8 (wordPlace commitWord) xs ≡ e .now
-  pub next : loadAt 8 (wordPlace postWord) xs ≡ e .next
+  pub now : loadAt 8 (wordPlace commitTimeWord) xs ≡ e .now
+  pub next : loadAt 8 (wordPlace nextPostWord) xs ≡ e .next
   pub cells : List Cell
   pub holds : Holds p (p .count) (e .capacity) (e .now) xs (e .queue) cells

@@ -17,11 +17,11 @@ stationsWord = 0
 abbrev pub capacityWord : ℕ
 capacityWord = 1
 
-abbrev pub commitWord : ℕ
-commitWord = 2
+abbrev pub commitTimeWord : ℕ
+commitTimeWord = 2
 
-abbrev pub postWord : ℕ
-postWord = 3
+abbrev pub nextPostWord : ℕ
+nextPostWord = 3
 
 -- where word i stands
 abbrev pub wordPlace : ℕ → ℕ

@@ -5,7 +5,7 @@ use mathlib.Core.List.{List, [], _∷_}
 use Rattle.line.specs.declared.Event.{Event}
 use Rattle.line.specs.Event.{before}
 
--- a is before b; a is not before b (records, so that the events are found from the proofs)
+-- a is before b; a is not before b
 pub record Lt (a b : Event) : Type 0 where
   pub is : before a b ≡ true
 

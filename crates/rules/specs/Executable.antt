@@ -1,5 +1,5 @@
--- Undo, remove, add and run as functions, with a bound on the undos: forms that compute. That they are the rules of Undo is proved (rules/proofs/Undo,
--- Agree and Exist).
+-- Undo, remove, add and run as functions, with a bound on the undos: forms that compute. That they are the rules of Undo is a theorem (`does-agree`,
+-- `can-remove`, `can-add`).
 use Prim.Native.Nat.{ℕ, zero, suc}
 use mathlib.Core.Bool.{cond, not, _&&_}
 use mathlib.Core.List.{List, [], _∷_}

@@ -7,8 +7,14 @@ use Rattle.engine_posting.proofs.Retracting.{retract-refused, unknown-p
 use Rattle.engine_posting.proofs.judge_retract.Statement.{statement}
 use Rattle.engine_posting.proofs.judge_retract.Tie as tie
 
+-- the place where both numbers have been read
+abbrev sized : tie.After-find-post → tie.After-capacity
+sized c = c .before .before .before
+
 returns : tie.Need-returns
-returns c = retract-refused _ (unfit-judged (c .before .before .before .stations .ensures) (c .before .before .capacity .ensures) (c .before .fits2 .ensures) (not-true _ (c .if1 .taken)))
+returns c =
+    let k = c .before .before in
+    retract-refused _ (unfit-judged (k .before .stations .ensures) (k .capacity .ensures) (c .before .fits2 .ensures) (not-true _ (c .if1 .taken)))
 
 find-post-requires : tie.Need-find-post-requires
 find-post-requires c κs =
@@ -16,10 +22,14 @@ find-post-requires c κs =
     (w .0, w .1)
 
 returns-2 : tie.Need-returns-2
-returns-2 c = retract-refused _ (unknown-post (c .before .before .before .before .before .stations .ensures) (c .before .before .before .before .capacity .ensures) (c .before .find-post .ensures) (c .if2 .taken))
+returns-2 c =
+    let k = sized (c .before) in
+    retract-refused _ (unknown-post (k .before .stations .ensures) (k .capacity .ensures) (c .before .find-post .ensures) (c .if2 .taken))
 
 returns-3 : tie.Need-returns-3
-returns-3 c = known-post (c .before .before .before .before .before .stations .ensures) (c .before .before .before .before .capacity .ensures) (c .before .find-post .ensures) (c .if2 .left)
+returns-3 c =
+    let k = sized (c .before) in
+    known-post (k .before .stations .ensures) (k .capacity .ensures) (c .before .find-post .ensures) (c .if2 .left)
 
 pub judge-retract-spec : {M : Type 1} → statement M
 judge-retract-spec =
