@@ -4,7 +4,8 @@ use mathlib.Core.Logic.{_⊎_, inl, inr}
 use mathlib.Core.List.{List}
 use Prim.Native.Nat.{ℕ, suc, _+_, _-_, _*_, _≤_, _<_}
 use native.Mathlib.Omega.{arith}
-use Rattle.calendar_buckets.specs.Table.{dueOf, bucketOf, bucketFor, Due, Kept, Changed, Gone, Placed}
+use Rattle.calendar_buckets.specs.Table.{dueOf, bucketOf, Due}
+use Rattle.calendar_buckets.specs.Promises.{bucketFor, Kept, Changed, Gone, Placed}
 use Rattle.words.proofs.Cases.{eq-or}
 use Rattle.calendar.specs.Ring.{blockOf, slotOfTime, ringEnd, leafFor}
 use Rattle.calendar.specs.Bytes.{widthOf, floorOf, ringStart, endOf, limitOf, slotIn, countOf, homeOf, Header, Sound}

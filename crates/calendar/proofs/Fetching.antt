@@ -4,7 +4,8 @@ use mathlib.Core.Logic.{_⊎_, inl, inr}
 use mathlib.Core.List.{List}
 use Prim.Native.Nat.{ℕ, suc, _+_, _-_, _≤_, _<_}
 use native.Mathlib.Omega.{arith}
-use Rattle.calendar_buckets.specs.Table.{dueOf, bucketOf, bucketFor, Due, Table, Kept, Placed, Waits, Later}
+use Rattle.calendar_buckets.specs.Table.{dueOf, bucketOf, Due, Table}
+use Rattle.calendar_buckets.specs.Promises.{bucketFor, Kept, Placed, Waits, Later}
 use Rattle.words.proofs.Cases.{eq-or, lt-or}
 use Rattle.calendar.specs.Ring.{leafFor}
 use Rattle.calendar.specs.Bytes.{widthOf, floorOf, limitOf, homeOf}

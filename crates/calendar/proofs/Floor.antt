@@ -8,7 +8,8 @@ use native.Mathlib.Nat.{mul-pos, mul-le-mul-right, add-mul, div-mul-le-self, div
 use native.Mathlib.Omega.{arith}
 use lib.Dec.{lit<}
 use Rattle.calendar_buckets.specs.Cells.{wordAt, putWord}
-use Rattle.calendar_buckets.specs.Table.{dueOf, bucketOf, bucketFor, Due}
+use Rattle.calendar_buckets.specs.Table.{dueOf, bucketOf, Due}
+use Rattle.calendar_buckets.specs.Promises.{bucketFor}
 use Rattle.words.proofs.Cases.{lt-or}
 use Rattle.calendar.specs.Ring.{blockOf, leafFor}
 use Rattle.calendar.specs.Bytes.{widthOf, floorOf, endOf, limitOf, countOf, homeOf, Header, Sound, stateOf}

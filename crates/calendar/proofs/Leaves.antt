@@ -8,7 +8,7 @@ use native.Mathlib.Omega.{arith}
 use lib.Dec.{lit<}
 use lib.Arith.{mod-mul}
 use borrow.Author.Tests.{lt-ltb, le-ltb}
-use Rattle.calendar_buckets.specs.Table.{bucketFor}
+use Rattle.calendar_buckets.specs.Promises.{bucketFor}
 use Rattle.calendar.specs.Ring.{blockOf, leafFor}
 use Rattle.calendar.specs.Bytes.{widthOf, floorOf, ringStart, limitOf, slotIn, Header}
 

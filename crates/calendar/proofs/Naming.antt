@@ -12,7 +12,8 @@ use Rattle.refusal.specs.declared.Refusal.the-variants.{Idle}
 use Rattle.refusal.specs.Numbers.{numberOf}
 use Rattle.refusal.specs.Tests.{accepted, refused, orNext, judged}
 use Rattle.calendar_buckets.specs.Lists.{rankOf}
-use Rattle.calendar_buckets.specs.Table.{dueOf, Table, Kept, Gone}
+use Rattle.calendar_buckets.specs.Table.{dueOf, Table}
+use Rattle.calendar_buckets.specs.Promises.{Kept, Gone}
 use Rattle.calendar_buckets.proofs.Places.{rank-station}
 use Rattle.calendar.specs.declared.Least.the-variants.{At, Refused}
 use Rattle.calendar.specs.Rules.{noneRegistered, anyBefore, lowestChecks, LeastAt, unregistered}

@@ -9,7 +9,8 @@ use Rattle.refusal.specs.declared.Refusal.{Refusal}
 use Rattle.refusal.specs.declared.Refusal.the-variants.{Station, Late, Early, Unrun}
 use Rattle.refusal.specs.Numbers.{numberOf}
 use Rattle.refusal.specs.Tests.{Check, accepted, refused, orNext, judged}
-use Rattle.calendar_buckets.specs.Table.{Table, Kept, Gone}
+use Rattle.calendar_buckets.specs.Table.{Table}
+use Rattle.calendar_buckets.specs.Promises.{Kept, Gone}
 use Rattle.calendar.specs.declared.Answer.{Answer}
 use Rattle.calendar.specs.declared.Answer.the-variants.{Done, Refused}
 use Rattle.calendar.specs.Rules.{Calendar, anyBefore, registerChecks, registeredAt, unregisterChecks, unregistered, advanceChecks, advanced}

@@ -14,7 +14,8 @@ use Rattle.refusal.specs.declared.Refusal.the-variants.{Width, Space}
 use Rattle.refusal.specs.Numbers.{numberOf}
 use Rattle.refusal.specs.Tests.{refused, orNext, judged}
 use Rattle.calendar_buckets.specs.Cells.{wordAt, putWord}
-use Rattle.calendar_buckets.specs.Table.{dueOf, Cleared}
+use Rattle.calendar_buckets.specs.Table.{dueOf}
+use Rattle.calendar_buckets.specs.Promises.{Cleared}
 use Rattle.calendar.specs.declared.Answer.the-variants.{Done, Refused}
 use Rattle.calendar.specs.Ring.{blockOf}
 use Rattle.calendar.specs.Rules.{openChecks, openedCalendar}

@@ -5,7 +5,8 @@ use mathlib.Core.List.{List}
 use Prim.Native.Nat.{ℕ, suc, _+_, _-_, _*_, _/_, _%_, _≤_, _<_}
 use native.Mathlib.Omega.{arith}
 use Rattle.calendar_buckets.specs.Lists.{rankOf}
-use Rattle.calendar_buckets.specs.Table.{dueOf, bucketOf, bucketFor, Due, turnsTo, NotAfter, First, Waits}
+use Rattle.calendar_buckets.specs.Table.{dueOf, bucketOf, Due}
+use Rattle.calendar_buckets.specs.Promises.{bucketFor, turnsTo, NotAfter, First, Waits}
 use Rattle.words.proofs.Cases.{eq-or, lt-or}
 use Rattle.calendar_buckets.proofs.Places.{rank-station}
 use Rattle.calendar.specs.Ring.{blockOf, leafFor}

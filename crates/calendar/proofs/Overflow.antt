@@ -6,7 +6,8 @@ use Prim.Native.Nat.{ℕ, zero, suc, _+_, _-_, _*_, _≤_, _<_}
 use native.Mathlib.Nat.{le-refl}
 use native.Mathlib.Omega.{arith}
 use Rattle.calendar_buckets.specs.Lists.{rankOf}
-use Rattle.calendar_buckets.specs.Table.{dueOf, Waits, Later}
+use Rattle.calendar_buckets.specs.Table.{dueOf}
+use Rattle.calendar_buckets.specs.Promises.{Waits, Later}
 use Rattle.words.proofs.Cases.{eq-or, lt-or}
 use Rattle.calendar_buckets.proofs.Places.{rank-station}
 use Rattle.calendar.specs.Steps.{Nearest, Nearer}

@@ -6,7 +6,8 @@ use Prim.Native.Nat.{ℕ, zero, suc, _+_, _-_, _*_, _≤_, _<_}
 use lib.ListN.{length}
 use Rattle.refusal.specs.Tests.{horizon}
 use Rattle.calendar_buckets.specs.Cells.{wordAt}
-use Rattle.calendar_buckets.specs.Table.{dueOf, bucketOf, bucketFor, Due, Table}
+use Rattle.calendar_buckets.specs.Table.{dueOf, bucketOf, Due, Table}
+use Rattle.calendar_buckets.specs.Promises.{bucketFor}
 use Rattle.calendar.specs.Ring.{blockOf, slotOfTime, ringEnd, leafFor}
 use Rattle.calendar.specs.Rules.{Calendar}
 

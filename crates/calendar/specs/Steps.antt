@@ -5,7 +5,8 @@ use mathlib.Core.List.{List}
 use Prim.Native.Nat.{ℕ, suc, _+_, _*_, _≤_, _<_}
 use lib.ListN.{length}
 use Rattle.calendar_buckets.specs.Lists.{rankOf}
-use Rattle.calendar_buckets.specs.Table.{dueOf, bucketOf, Due, Table, Kept, Waits}
+use Rattle.calendar_buckets.specs.Table.{dueOf, bucketOf, Due, Table}
+use Rattle.calendar_buckets.specs.Promises.{Kept, Waits}
 use Rattle.calendar.specs.Bytes.{widthOf, floorOf, ringStart, endOf, limitOf, slotIn, countOf, homeOf, Header, Sound}
 
 -- ---- the first station

@@ -9,7 +9,8 @@ use native.Mathlib.Omega.{arith}
 use lib.Pow.{pow-pos, pow-mono, pow-lt}
 use lib.Bits.{bitOr, bitXor, or-lt, xor-lt, differ}
 use lib.Count.{leadingZeros, leading-top, leading-of-zero, leading-le}
-use Rattle.calendar_bitmap.specs.Child.{child, FirstChild, FirstFrom, WithChild}
+use Rattle.calendar_bitmap.specs.Child.{child}
+use Rattle.calendar_bitmap.specs.Promises.{FirstChild, FirstFrom, WithChild}
 use Rattle.words.proofs.Cases.{lt-or}
 use Rattle.calendar_bitmap.proofs.Bits.{bit, bit-lt, bit-zero, bit-high, bit-top, bit-or, bit-xor, bit-pow-same, bit-pow-other, bit-mod}
 

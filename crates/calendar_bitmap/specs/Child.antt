@@ -1,29 +1,6 @@
 -- The children of a bitmap word, over their number a: "child 0 is the most significant bit" (document 01, "Calendar").
-use mathlib.Core.Path.{_≡_}
-use mathlib.Core.Bool.{Bool, cond}
-use Prim.Native.Nat.{ℕ, _-_, _/_, _%_, _^_, _<_, _≤_}
+use Prim.Native.Nat.{ℕ, _-_, _/_, _%_, _^_}
 
 -- child i of a word x of a bits: 1 where it is set, else 0
 unfoldable pub child : ℕ → ℕ → ℕ → ℕ
 child a x i = x / 2 ^ (a - 1 - i) % 2
-
--- r is the first child of x that is set, or a where x is 0
-pub record FirstChild (a x r : ℕ) : Type 0 where
-  pub within : r ≤ a
-  pub none : x ≡ 0 → r ≡ a
-  pub some : (x ≡ 0 → ⊥) → r < a
-  pub set : r < a → child a x r ≡ 1
-  pub before : (k : ℕ) → k < r → child a x k ≡ 0
-
--- r is the first child of x that is set, from child i on, or a where none is
-pub record FirstFrom (a x i r : ℕ) : Type 0 where
-  pub within : r ≤ a
-  pub from : r < a → i ≤ r
-  pub set : r < a → child a x r ≡ 1
-  pub before : (k : ℕ) → i ≤ k → k < r → child a x k ≡ 0
-
--- r is x with its child i set, or clear, and no other child changed
-pub record WithChild (a x i : ℕ) (on : Bool) (r : ℕ) : Type 0 where
-  pub fits : r < 2 ^ a
-  pub this : child a r i ≡ cond on 1 0
-  pub others : (k : ℕ) → k < a → (k ≡ i → ⊥) → child a r k ≡ child a x k

@@ -2,7 +2,7 @@
 
 ghost use mathlib.Core.Path.{_≡_};
 ghost use Prim.Native.Nat.{_-_, _%_, _^_, _≤_, _<_};
-ghost use Rattle.calendar_bitmap.specs.Child.{FirstChild, FirstFrom, WithChild};
+ghost use Rattle.calendar_bitmap.specs.Promises.{FirstChild, FirstFrom, WithChild};
 
 // The word in which child i alone is set.
 fn child_word(i: u32) -> u16

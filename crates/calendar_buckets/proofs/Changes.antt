@@ -9,7 +9,8 @@ use Rattle.refusal.specs.Tests.{horizon}
 use Rattle.calendar_buckets.specs.Cells.{halfAt}
 use Rattle.calendar_buckets.specs.Lists.{Live, Lists}
 use Rattle.calendar_buckets.specs.Tree.{Tree}
-use Rattle.calendar_buckets.specs.Table.{dueOf, bucketOf, nextPlace, prevPlace, nodeWord, rootOf, bucketHead, Due, Table, Changed}
+use Rattle.calendar_buckets.specs.Table.{dueOf, bucketOf, nextPlace, prevPlace, nodeWord, rootOf, bucketHead, Due, Table}
+use Rattle.calendar_buckets.specs.Promises.{Changed}
 use Rattle.calendar_buckets.specs.Steps.{Chained}
 use Rattle.words.proofs.Cases.{eq-or}
 use Rattle.calendar_buckets.proofs.TreeLaws.{sums-same}

@@ -14,7 +14,8 @@ use Rattle.calendar_bitmap.specs.Child.{child}
 use Rattle.calendar_bitmap.proofs.ChildLaws.{child-zero}
 use Rattle.calendar_buckets.specs.Cells.{wordAt, halfAt}
 use Rattle.calendar_buckets.specs.Tree.{flag}
-use Rattle.calendar_buckets.specs.Table.{dueOf, Table, Kept, Cleared}
+use Rattle.calendar_buckets.specs.Table.{dueOf, Table}
+use Rattle.calendar_buckets.specs.Promises.{Kept, Cleared}
 use Rattle.words.proofs.Cases.{eq-or, lt-or}
 
 -- the bytes from 64 to i are 0, and the others are as they were

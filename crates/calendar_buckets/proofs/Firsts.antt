@@ -4,8 +4,10 @@ use mathlib.Core.Logic.{_⊎_, inl, inr}
 use mathlib.Core.List.{List}
 use Prim.Native.Nat.{ℕ, suc, _+_, _-_, _*_, _/_, _%_, _≤_, _<_}
 use native.Mathlib.Omega.{arith}
-use Rattle.calendar_bitmap.specs.Child.{child, FirstChild}
-use Rattle.calendar_buckets.specs.Table.{bucketOf, nodeWord, rootOf, bucketHead, turnsTo, Due, Table, NotAfter, First}
+use Rattle.calendar_bitmap.specs.Child.{child}
+use Rattle.calendar_bitmap.specs.Promises.{FirstChild}
+use Rattle.calendar_buckets.specs.Table.{bucketOf, nodeWord, rootOf, bucketHead, Due, Table}
+use Rattle.calendar_buckets.specs.Promises.{turnsTo, NotAfter, First}
 use Rattle.calendar_buckets.specs.Steps.{FirstLeaf, HeadOf}
 use Rattle.words.proofs.Cases.{eq-or, lt-or}
 use Rattle.calendar_buckets.proofs.TreeLaws.{set-above, some-above, some-below}

@@ -4,7 +4,8 @@ use mathlib.Core.List.{List}
 use Prim.Native.Nat.{ℕ, suc, _+_, _-_, _≤_, _<_}
 use native.Mathlib.Omega.{arith}
 use Rattle.calendar_buckets.specs.Lists.{rankOf}
-use Rattle.calendar_buckets.specs.Table.{dueOf, bucketOf, nextPlace, prevPlace, bucketHead, Due, Table, Waits}
+use Rattle.calendar_buckets.specs.Table.{dueOf, bucketOf, nextPlace, prevPlace, bucketHead, Due, Table}
+use Rattle.calendar_buckets.specs.Promises.{Waits}
 use Rattle.calendar_buckets.specs.Steps.{HeadOf}
 use Rattle.calendar_buckets.proofs.ListHead.{head-least, head-list}
 

@@ -4,9 +4,11 @@ use mathlib.Core.Logic.{_⊎_, inl, inr}
 use mathlib.Core.List.{List}
 use Prim.Native.Nat.{ℕ, _+_, _-_, _*_, _/_, _%_, _≤_, _<_}
 use native.Mathlib.Omega.{arith}
-use Rattle.calendar_bitmap.specs.Child.{child, FirstFrom}
+use Rattle.calendar_bitmap.specs.Child.{child}
+use Rattle.calendar_bitmap.specs.Promises.{FirstFrom}
 use Rattle.calendar_buckets.specs.Cells.{halfAt}
-use Rattle.calendar_buckets.specs.Table.{nodeWord, bucketHead, Table, Waits, Later}
+use Rattle.calendar_buckets.specs.Table.{nodeWord, bucketHead, Table}
+use Rattle.calendar_buckets.specs.Promises.{Waits, Later}
 use Rattle.words.proofs.Cases.{lt-or}
 use Rattle.calendar_buckets.proofs.TreeLaws.{set-above, some-below}
 use Rattle.calendar_buckets.proofs.Heads.{waits-head, head-waits}

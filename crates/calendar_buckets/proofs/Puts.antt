@@ -7,7 +7,8 @@ use native.Mathlib.Omega.{arith}
 use lib.ListN.{length}
 use Rattle.refusal.specs.Tests.{horizon}
 use Rattle.calendar_buckets.specs.Cells.{wordAt, halfAt, putWord, putHalf}
-use Rattle.calendar_buckets.specs.Table.{dueOf, bucketOf, nextPlace, prevPlace, bucketHead, Table, Kept, Gone, Placed}
+use Rattle.calendar_buckets.specs.Table.{dueOf, bucketOf, nextPlace, prevPlace, bucketHead, Table}
+use Rattle.calendar_buckets.specs.Promises.{Kept, Gone, Placed}
 use Rattle.calendar_buckets.specs.Steps.{Place, Joined, Raised}
 use Rattle.calendar_buckets.proofs.CellLaws.{length-word, length-half, word-same, word-other, word-half, half-same, half-other, half-word}
 use Rattle.calendar_buckets.proofs.Places.{list-station, list-head}

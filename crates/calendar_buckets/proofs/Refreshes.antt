@@ -9,7 +9,8 @@ use native.Mathlib.Omega.{arith}
 use lib.Dec.{lit<, ltb}
 use lib.ListN.{length}
 use borrow.Author.Tests.{lt-ltb, le-ltb}
-use Rattle.calendar_bitmap.specs.Child.{child, WithChild}
+use Rattle.calendar_bitmap.specs.Child.{child}
+use Rattle.calendar_bitmap.specs.Promises.{WithChild}
 use Rattle.calendar_bitmap.proofs.ChildLaws.{child-zero}
 use Rattle.calendar_buckets.specs.Cells.{wordAt, halfAt, putHalf}
 use Rattle.calendar_buckets.specs.Tree.{Sums}

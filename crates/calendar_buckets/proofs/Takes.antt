@@ -7,7 +7,8 @@ use native.Mathlib.Omega.{arith}
 use lib.ListN.{length}
 use Rattle.calendar_buckets.specs.Cells.{wordAt, halfAt, putWord}
 use Rattle.calendar_buckets.specs.Lists.{Back}
-use Rattle.calendar_buckets.specs.Table.{dueOf, bucketOf, nextPlace, prevPlace, bucketHead, Due, Table, Kept, Gone}
+use Rattle.calendar_buckets.specs.Table.{dueOf, bucketOf, nextPlace, prevPlace, bucketHead, Due, Table}
+use Rattle.calendar_buckets.specs.Promises.{Kept, Gone}
 use Rattle.calendar_buckets.specs.Steps.{Joined, Lowered}
 use Rattle.calendar_buckets.proofs.CellLaws.{length-word, word-same, word-other, half-word}
 use Rattle.calendar_buckets.proofs.Places.{list-head, lists-at}

@@ -6,7 +6,8 @@ use native.Mathlib.Nat.{mod-lt, div-add-mod'}
 use native.Mathlib.Omega.{arith}
 use lib.Dec.{ltb}
 use borrow.Author.Tests.{lt-ltb, le-ltb}
-use Rattle.calendar_bitmap.specs.Child.{child, WithChild}
+use Rattle.calendar_bitmap.specs.Child.{child}
+use Rattle.calendar_bitmap.specs.Promises.{WithChild}
 use Rattle.calendar_bitmap.proofs.ChildLaws.{child-zero}
 use Rattle.calendar_buckets.specs.Tree.{flag, Sums}
 use Rattle.words.proofs.Cases.{eq-or}

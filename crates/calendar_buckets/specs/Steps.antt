@@ -7,7 +7,8 @@ use Rattle.refusal.specs.Tests.{horizon}
 use Rattle.calendar_buckets.specs.Cells.{wordAt, halfAt}
 use Rattle.calendar_buckets.specs.Lists.{Live, Lists, listOf, rankOf}
 use Rattle.calendar_buckets.specs.Tree.{Tree}
-use Rattle.calendar_buckets.specs.Table.{dueOf, bucketOf, nextPlace, prevPlace, nodeWord, rootOf, bucketHead, turnsTo, Due}
+use Rattle.calendar_buckets.specs.Table.{dueOf, bucketOf, nextPlace, prevPlace, nodeWord, rootOf, bucketHead, Due}
+use Rattle.calendar_buckets.specs.Promises.{turnsTo}
 
 -- the lists are linked, whatever the bits say
 pub record Chained (xs : List ℕ) : Type 0 where

@@ -9,8 +9,7 @@ use Rattle.rings.specs.Table.{nextOf}
 use Rattle.rings.proofs.Frames.{frame-same}
 use Rattle.engine_rows.specs.Layout.{slotRow}
 use Rattle.engine_index.specs.Layout.{freeRing, linksAt, indexBytes, IsSlot, slotFound}
-use Rattle.engine_index.specs.SlotPromises.{Spares}
-use Rattle.engine_index.specs.Promises.{Puts}
+use Rattle.engine_index.specs.Promises.{Spares, Puts}
 use Rattle.engine_index.proofs.Places.FoundSlot.{finds}
 use Rattle.engine_index.proofs.Slots.SlotsSpared.{spares-same}
 use Rattle.engine_index.proofs.Changes.Confined.{Inside}

@@ -8,10 +8,9 @@ ghost use Rattle.rings.specs.Table.{prevOf, Frame};
 ghost use Rattle.rings.specs.Walk.{steps};
 ghost use Rattle.engine_rows.specs.Layout.{slotRow};
 ghost use Rattle.engine_index.specs.Layout.{indexBytes};
-ghost use Rattle.engine_index.specs.SlotPromises.{Spares};
+ghost use Rattle.engine_index.specs.Promises.{Spares, Puts, Marks};
 ghost use Rattle.engine_ends.specs.Ends.{spareNode};
 ghost use Rattle.engine_index.specs.Steps.{stopAt, filed};
-ghost use Rattle.engine_index.specs.Promises.{Puts, Marks};
 use line::Event;
 use line::State;
 

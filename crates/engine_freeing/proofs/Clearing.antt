@@ -22,7 +22,8 @@ use Rattle.rings.proofs.Families.{free-all, rings-none, rings-empty, rings-inse
 use Rattle.engine_rows.specs.Layout.{slotRow}
 use Rattle.engine_index.specs.Layout.{nodeOf, linksAt, logAt, nodesOf, indexBytes, slotOf, inRange}
 use Rattle.engine_index.specs.Represents.{contents, statusAt, Free}
-use Rattle.engine_index.specs.Opening.{emptied, filled, places, Clears}
+use Rattle.engine_index.specs.Steps.{emptied, filled}
+use Rattle.engine_index.specs.Promises.{places, Clears}
 
 -- ---- empty rings
 

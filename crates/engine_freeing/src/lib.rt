@@ -9,10 +9,8 @@ ghost use Rattle.rings.specs.Table.{Frame};
 ghost use Rattle.engine_rows.specs.Layout.{slotRow, freeStatus, unrunStatus};
 ghost use Rattle.entry.specs.Entry.{eventAt};
 ghost use Rattle.engine_index.specs.Layout.{indexBytes, slotOf};
-ghost use Rattle.engine_index.specs.SlotPromises.{Spares, Sets};
-ghost use Rattle.engine_index.specs.Opening.{emptied, filled, Clears};
-ghost use Rattle.engine_index.specs.Steps.{Frees};
-ghost use Rattle.engine_index.specs.Promises.{Unmarks, Drops, Releases};
+ghost use Rattle.engine_index.specs.Promises.{Spares, Sets, Clears, Unmarks, Drops, Releases};
+ghost use Rattle.engine_index.specs.Steps.{emptied, filled, Frees};
 
 // The run event of node x, the last of its station, is unrun again.
 pub fn unmark(b: &mut [u8], n: u16, c: u16, x: u16)

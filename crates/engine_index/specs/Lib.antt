@@ -2,5 +2,3 @@ pub mod Layout
 pub mod Represents
 pub mod Steps
 pub mod Promises
-pub mod SlotPromises
-pub mod Opening

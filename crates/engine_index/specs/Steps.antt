@@ -3,17 +3,17 @@ use mathlib.Core.Path.{_≡_}
 use mathlib.Core.Logic.{_⊎_}
 use mathlib.Core.Bool.{Bool, _||_}
 use mathlib.Core.List.{List}
-use Prim.Native.Nat.{ℕ, _+_}
+use Prim.Native.Nat.{ℕ, _+_, zero, suc}
 use lib.Dec.{eqb}
 use lib.ListN.{length}
 use Rattle.words.specs.Le.{storeAt}
 use Rattle.line.specs.declared.Event.{Event}
 use Rattle.line.specs.Event.{before}
-use Rattle.rings.specs.Table.{prevOf, linkAfter, unlinked}
+use Rattle.rings.specs.Table.{prevOf, linkAfter, unlinked, emptyAt}
 use Rattle.rings.specs.Walk.{steps}
 use Rattle.engine_rows.specs.Layout.{slotRow, freeStatus}
 use Rattle.entry.specs.Entry.{eventAt}
-use Rattle.engine_index.specs.Layout.{freeRing, nodesOf, slotOf, linksAt, IsSlot}
+use Rattle.engine_index.specs.Layout.{freeRing, nodesOf, slotOf, linksAt, IsSlot, nodeOf}
 
 -- at the sentinel s, and at a node whose event comes before e
 unfoldable pub stopAt : List ℕ → ℕ → ℕ → Event → ℕ → Bool
@@ -31,3 +31,15 @@ freed xs n o k x = linkAfter (unlinked (storeAt 2 (slotRow n (slotOf n x) + 60) 
 abbrev pub Frees : ℕ → ℕ → List ℕ → ℕ → List ℕ → Type 0
 Frees n c xs x ys =
     (IsSlot n c (length xs) x × (ys ≡ freed xs n (linksAt n c) (nodesOf n c) x)) ⊎ ((IsSlot n c (length xs) x → ⊥) × (ys ≡ xs))
+
+-- ---- an index without events: empty rings, and all slots free
+
+-- nodes 0 to m - 1 alone in their rings
+unfoldable pub emptied : List ℕ → ℕ → ℕ → ℕ → List ℕ
+emptied xs o k zero = xs
+emptied xs o k (suc m) = emptyAt (emptied xs o k m) o k m
+
+-- slots 0 to i - 1 free, and in the free ring
+unfoldable pub filled : List ℕ → ℕ → ℕ → ℕ → ℕ → List ℕ
+filled xs n o k zero = xs
+filled xs n o k (suc i) = linkAfter (storeAt 2 (slotRow n i + 60) freeStatus (filled xs n o k i)) o k (freeRing n + i) (nodeOf n i)

@@ -1,5 +1,5 @@
 -- What fits the widths of the declared Event, State and Config: a time is of 64 bits, a station of 16, every other number of 32.
-use Prim.Native.Nat.{ℕ, _^_, _<_}
+use Prim.Native.Nat.{_^_, _<_}
 use Rattle.line.specs.declared.Event.{Event}
 use Rattle.line.specs.declared.State.{State}
 use Rattle.line.specs.declared.Config.{Config}

@@ -3,7 +3,7 @@ use mathlib.Core.Path.{subst}
 use Prim.Native.Nat.{ℕ}
 use borrow.Author.Needs.{needs}
 use Rattle.calendar_bitmap.proofs.ChildLaws.{rest-first, rest-past}
-use Rattle.calendar_bitmap.specs.Child.{FirstChild}
+use Rattle.calendar_bitmap.specs.Promises.{FirstChild}
 use Rattle.calendar_bitmap.proofs.first_from.Statement.{statement}
 use Rattle.calendar_bitmap.proofs.first_from.Tie as tie
 

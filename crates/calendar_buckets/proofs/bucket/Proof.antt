@@ -2,7 +2,7 @@
 use native.Mathlib.Omega.{arith}
 use borrow.Author.Tests.{lt-ltb, le-ltb}
 use borrow.Author.Needs.{needs}
-use Rattle.calendar_buckets.specs.Table.{bucketFor}
+use Rattle.calendar_buckets.specs.Promises.{bucketFor}
 use Rattle.calendar_buckets.proofs.bucket.Statement.{statement}
 use Rattle.calendar_buckets.proofs.bucket.Tie as tie
 

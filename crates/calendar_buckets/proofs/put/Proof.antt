@@ -3,7 +3,7 @@ use mathlib.Core.Path.{refl, subst}
 use Prim.Native.Nat.{ℕ}
 use native.Mathlib.Omega.{arith}
 use borrow.Author.Needs.{needs}
-use Rattle.calendar_buckets.specs.Table.{Placed}
+use Rattle.calendar_buckets.specs.Promises.{Placed}
 use Rattle.calendar_buckets.proofs.Takes.{kept-same, kept-on}
 use Rattle.calendar_buckets.proofs.Puts.{put-after, put-nothing}
 use Rattle.calendar_buckets.proofs.put.Statement.{statement}

@@ -5,7 +5,7 @@ use native.Mathlib.Omega.{arith}
 use borrow.Author.Needs.{needs}
 use denote.Ref.{now}
 use lib.ListN.{length}
-use Rattle.engine_index.specs.Opening.{emptied}
+use Rattle.engine_index.specs.Steps.{emptied}
 use Rattle.engine_freeing.proofs.Clearing.{emptied-none, emptied-on, at-end}
 use Rattle.engine_freeing.proofs.empty_rings.Statement.{statement}
 use Rattle.engine_freeing.proofs.empty_rings.Tie as tie

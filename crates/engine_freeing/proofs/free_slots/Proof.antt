@@ -6,7 +6,7 @@ use borrow.Author.Needs.{needs}
 use denote.Ref.{now}
 use lib.ListN.{length}
 use lib.Dec.{lit<}
-use Rattle.engine_index.specs.Opening.{filled}
+use Rattle.engine_index.specs.Steps.{filled}
 use Rattle.engine_index.proofs.Places.Range.{node-in}
 use Rattle.engine_freeing.proofs.Clearing.{filled-none, filled-on, at-end}
 use Rattle.engine_freeing.proofs.free_slots.Statement.{statement}

@@ -20,10 +20,9 @@ use Rattle.engine_rows.specs.Layout.{slotRow}
 use Rattle.entry.specs.Entry.{eventAt, putEvent}
 use Rattle.engine_records.specs.Records.{putState}
 use Rattle.engine_index.specs.Layout.{linksAt, logAt, nodesOf, slotOf}
-use Rattle.engine_index.specs.SlotPromises.{Spares, Sets}
+use Rattle.engine_index.specs.Promises.{Spares, Sets, Puts, Marks, Unmarks, Drops, Releases}
 use Rattle.engine_index.specs.Represents.{cell}
 use Rattle.engine_index.specs.Steps.{stopAt, filed, freed, Frees}
-use Rattle.engine_index.specs.Promises.{Puts, Marks, Unmarks, Drops, Releases}
 use Rattle.engine_index.proofs.Places.FoundSlot.{FindsSlot}
 use Rattle.engine_index.proofs.Slots.SlotBytes.{held-event}
 use Rattle.engine_index.proofs.Changes.Put.{putBytes, first-free, put-stands}

@@ -13,9 +13,8 @@ use Rattle.rings.proofs.Frames.{frame-same}
 use Rattle.engine_rows.specs.Layout.{slotRow}
 use Rattle.entry.specs.Entry.{eventAt}
 use Rattle.engine_index.specs.Layout.{linksAt, slotOf, indexBytes, inRange, IsSlot}
-use Rattle.engine_index.specs.SlotPromises.{Spares, Sets}
+use Rattle.engine_index.specs.Promises.{Spares, Sets, Puts, Marks, Unmarks, Drops, Releases}
 use Rattle.engine_index.specs.Represents.{Cell, cell, Stands}
-use Rattle.engine_index.specs.Promises.{Puts, Marks, Unmarks, Drops, Releases}
 use Rattle.engine_index.proofs.Places.Range.{range-gone}
 use Rattle.engine_index.proofs.Places.FoundSlot.{FindsSlot}
 use Rattle.engine_index.proofs.Slots.SlotBytes.{held-event}

@@ -17,7 +17,7 @@ use Rattle.engine_records.specs.Records.{putState}
 use Rattle.engine_records.proofs.Cells.{number, beside}
 use Rattle.engine_index.specs.Layout.{linksAt, logAt, nodesOf, slotOf}
 use Rattle.engine_index.specs.Steps.{filed, freed}
-use Rattle.engine_index.specs.SlotPromises.{Spares, Sets}
+use Rattle.engine_index.specs.Promises.{Spares, Sets}
 use Rattle.engine_index.proofs.Places.Layout.{least, from-links}
 use Rattle.engine_index.proofs.Slots.SlotBytes.{event-frame, state-frame}
 use Rattle.engine_index.proofs.Changes.Put.{putBytes}

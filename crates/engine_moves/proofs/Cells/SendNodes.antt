@@ -8,7 +8,7 @@ use Rattle.line.specs.declared.Event.{Event}
 use Rattle.rules.specs.Held.{Held, event}
 use Rattle.engine_rows.specs.Layout.{slotRow}
 use Rattle.engine_index.specs.Layout.{slotOf}
-use Rattle.engine_index.specs.SlotPromises.{Spares}
+use Rattle.engine_index.specs.Promises.{Spares}
 use Rattle.engine_index.specs.Represents.{Cell, cell}
 use Rattle.engine_events.specs.Represents.{Has, From, sendsAt, Nodes, none, more}
 

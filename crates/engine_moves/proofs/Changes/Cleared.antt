@@ -18,8 +18,8 @@ use Rattle.calendar.specs.Bytes.{stateOf}
 use Rattle.calendar.specs.Promises.{OpensCalendar}
 use Rattle.engine_events.proofs.CalendarShown.{opened-shows}
 use Rattle.engine_index.specs.Layout.{indexBytes}
-use Rattle.engine_index.specs.Opening as index
-use Rattle.engine_index.specs.Opening.{places}
+use Rattle.engine_index.specs.Promises as index
+use Rattle.engine_index.specs.Promises.{places}
 use Rattle.engine_events.specs.Represents.{fitsIn, calendarAt, part}
 use Rattle.refusal.specs.Tests.{calendarBytes}
 use Rattle.engine_events.specs.Promises.{AfterHeader}

@@ -14,9 +14,8 @@ use Rattle.rings.specs.Table.{Frame}
 use Rattle.engine_rows.specs.Layout.{slotRow}
 use Rattle.line.specs.Widths.{EventFits}
 use Rattle.engine_index.specs.Layout.{indexBytes}
-use Rattle.engine_index.specs.SlotPromises.{Spares}
+use Rattle.engine_index.specs.Promises.{Spares, Puts}
 use Rattle.engine_index.specs.Represents.{Cell, cell, Stands, AllBefore, AllAfter}
-use Rattle.engine_index.specs.Promises.{Puts}
 use Rattle.engine_index.proofs.Changes.ToRules.{place-cells}
 use Rattle.engine_events.specs.Represents.{heldOf, Holds}
 use Rattle.engine_moves.specs.Promises.{HoldsAmong, HoldsEvent, New}

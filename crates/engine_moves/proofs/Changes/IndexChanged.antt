@@ -12,7 +12,7 @@ use Rattle.rules.specs.Held.{Held, ran, event, In, Queue}
 use Rattle.rings.specs.Table.{Frame}
 use Rattle.engine_rows.specs.Layout.{slotRow}
 use Rattle.engine_index.specs.Layout.{indexBytes}
-use Rattle.engine_index.specs.SlotPromises.{Spares}
+use Rattle.engine_index.specs.Promises.{Spares}
 use Rattle.engine_index.specs.Represents.{Cell, cell, Stands}
 use Rattle.engine_events.specs.Represents.{heldOf, Has, From, Kids, Stores}
 use Rattle.engine_moves.proofs.Cells.Split.{held-in, in-held}

@@ -22,9 +22,8 @@ use Rattle.engine_events.specs.Shows.{Inside}
 use Rattle.rings.specs.Table.{Frame}
 use Rattle.engine_rows.specs.Layout.{slotRow}
 use Rattle.engine_index.specs.Layout.{indexBytes}
-use Rattle.engine_index.specs.SlotPromises.{Spares}
+use Rattle.engine_index.specs.Promises.{Spares, Drops, Releases as IndexReleases}
 use Rattle.engine_index.specs.Represents.{Cell, cell, Stands}
-use Rattle.engine_index.specs.Promises.{Drops, Releases as IndexReleases}
 use Rattle.engine_index.proofs.Changes.ToRules.{delete-cells}
 use Rattle.engine_events.specs.Represents.{heldOf, Has, Stores, Holds}
 use Rattle.engine_moves.specs.Promises.{HoldsAmong, ReleasesEvent, Unsent}

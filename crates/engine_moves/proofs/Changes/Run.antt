@@ -19,9 +19,8 @@ use Rattle.engine_rows.specs.Layout.{stationRow, slotRow}
 use Rattle.engine_records.specs.Records.{putState}
 use Rattle.line.specs.Widths.{StateFits}
 use Rattle.engine_index.specs.Layout.{indexBytes, slotOf}
-use Rattle.engine_index.specs.SlotPromises.{Spares}
+use Rattle.engine_index.specs.Promises.{Spares, Marks}
 use Rattle.engine_index.specs.Represents.{Cell, cell}
-use Rattle.engine_index.specs.Promises.{Marks}
 use Rattle.engine_index.proofs.Changes.ToRules.{mark-cells}
 use Rattle.engine_index.proofs.Slots.SlotBytes.{state-frame}
 use Rattle.engine_events.specs.Represents.{part, heldOf, Has, nonzero, sendsAt, Nodes, Kids, Stores, Calendared, Holds}

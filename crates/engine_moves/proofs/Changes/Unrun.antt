@@ -16,9 +16,8 @@ use Rattle.engine_rows.specs.Layout.{stationRow, slotRow}
 use Rattle.engine_records.specs.Records.{putState}
 use Rattle.line.specs.Widths.{StateFits}
 use Rattle.engine_index.specs.Layout.{indexBytes}
-use Rattle.engine_index.specs.SlotPromises.{Spares}
+use Rattle.engine_index.specs.Promises.{Spares, Unmarks}
 use Rattle.engine_index.specs.Represents.{Cell, cell}
-use Rattle.engine_index.specs.Promises.{Unmarks}
 use Rattle.engine_index.proofs.Changes.ToRules.{unmark-cells}
 use Rattle.engine_index.proofs.Slots.SlotBytes.{state-frame}
 use Rattle.engine_events.specs.Represents.{heldOf, Has, Holds}

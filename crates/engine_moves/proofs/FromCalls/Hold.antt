@@ -8,8 +8,7 @@ use borrow.Author.Tests.{lt-ltb, le-ltb}
 use lib.Dec.{ltb}
 use lib.ListN.{length}
 use Rattle.line.specs.declared.Event.{Event}
-use Rattle.engine_index.specs.SlotPromises.{Spares}
-use Rattle.engine_index.specs.Promises.{Puts}
+use Rattle.engine_index.specs.Promises.{Spares, Puts}
 use Rattle.engine_index.specs.Layout.{slotFound}
 use Rattle.engine_ends.specs.Ends.{firstFree, spareNode}
 use Rattle.engine_events.specs.Represents.{fitsIn}

@@ -11,8 +11,7 @@ use Rattle.rules.specs.Held.{unrun}
 use Rattle.engine_rows.specs.Layout.{slotRow}
 use Rattle.entry.specs.Entry.{eventAt}
 use Rattle.engine_index.specs.Layout.{slotOf, IsSlot}
-use Rattle.engine_index.specs.SlotPromises.{Spares, Sets}
-use Rattle.engine_index.specs.Promises.{Drops, Releases as IndexReleases}
+use Rattle.engine_index.specs.Promises.{Spares, Sets, Drops, Releases as IndexReleases}
 use Rattle.engine_moves.specs.RunCount.{runsBelow}
 use Rattle.engine_events.specs.Promises.{AfterHeader}
 use Rattle.engine_moves.specs.Steps.{Tells}

@@ -20,9 +20,8 @@ use Rattle.line.specs.Widths.{StateFits}
 use Rattle.engine_records.proofs.RecordLaws.{length-state}
 use Rattle.engine_records.proofs.Fits.{state-fits}
 use Rattle.engine_index.specs.Layout.{slotOf}
-use Rattle.engine_index.specs.SlotPromises.{Spares}
+use Rattle.engine_index.specs.Promises.{Spares, Marks}
 use Rattle.engine_index.specs.Represents.{Cell, cell}
-use Rattle.engine_index.specs.Promises.{Marks}
 use Rattle.engine_index.proofs.Slots.SlotBytes.{state-frame}
 use Rattle.engine_events.specs.Represents.{Has, nonzero, Nodes}
 use Rattle.engine_events.specs.Promises.{AfterHeader}

@@ -21,9 +21,8 @@ use Rattle.line.specs.Widths.{StateFits}
 use Rattle.engine_records.proofs.RecordLaws.{length-state}
 use Rattle.engine_records.proofs.Fits.{state-fits}
 use Rattle.engine_index.specs.Layout.{slotOf, IsSlot, slotFound}
-use Rattle.engine_index.specs.SlotPromises.{Spares, Sets}
+use Rattle.engine_index.specs.Promises.{Spares, Sets, Unmarks}
 use Rattle.engine_index.specs.Represents.{Cell, cell, statusAt}
-use Rattle.engine_index.specs.Promises.{Unmarks}
 use Rattle.engine_index.proofs.Slots.SlotBytes.{state-frame}
 use Rattle.engine_index.proofs.Places.FoundSlot.{finds}
 use Rattle.engine_events.specs.Represents.{fitsIn, Has, Stores}
