@@ -1,5 +1,5 @@
--- The claim: an opening and any list of calls after it, each known by the promise that its contract states, and demand 3 of them (document 01,
--- "Three demands").
+-- The claim: an opening and any list of calls after it, each known by what its contract ensures, and demand 3 of them: "All of this is a single claim
+-- about the whole list and not one for each call" (document 01, "Plain machine").
 use mathlib.Core.Path.{_≡_}
 use mathlib.Core.List.{List, [], _∷_}
 use Prim.Native.Nat.{ℕ, _<_}
@@ -51,13 +51,13 @@ pub record Whole (plan : List ℕ) (capacity : ℕ) (ms : List Made) (ys : List 
   pub demand : Demand (lineOf plan) ms
   -- the machine comes to no other state
   pub one-machine : (k : Machine) → Comes (lineOf plan) ms k → k ≡ demand .machine
-  -- "Each station's record, asked then, equals the machine's state of that station."
+  -- each station's record, asked then, is the machine's state of that station
   pub records-then : (s : ℕ) → s < lineOf plan .count → (r : RecordAnswer) → Answered (Record s) (recordSaid r) ys ys
       → recordSaid r ≡ Recorded (demand .machine .states s)
 
 -- what is claimed of an opening, accepted or not, and of every list of calls after an accepted one
 pub record Session (plan : List ℕ) (width capacity : ℕ) (before : List ℕ) (r : OpenAnswer) (xs : List ℕ) : Type 0 where
-  -- "An opening .. is accepted exactly when none of the documents' numbers refuses it"
+  -- it is accepted exactly where none of the documents' numbers refuses it; a refusal "changes nothing"
   pub opening : openSays r ≡ judged (checksOf (openCases plan width capacity (length before)))
   pub refusal : (e : Refusal) → r ≡ Unopened e → xs ≡ before
   pub whole : r ≡ Done → (ys : List ℕ) (ms : List Made) → Chain xs ms ys → Whole plan capacity ms ys

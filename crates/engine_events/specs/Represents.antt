@@ -22,7 +22,7 @@ use Rattle.engine_index.specs.Represents.{Cell, cell, Stands}
 
 -- ---- the buffer
 
--- "32768 + 256·N + 256·capacity bytes" are enough
+-- "32768 + 256·N + 256·capacity (engine)" bytes are enough, and the numbers are in range
 abbrev pub fitsIn : ℕ → ℕ → ℕ → Bool
 fitsIn n c bytes = leb n 256 && (leb c 4096 && leb (engineBytes n c) bytes)
 
@@ -81,8 +81,8 @@ pub record Stores (p : Plan) (n c now : ℕ) (xs : List ℕ) (q : Queue) (cells 
   pub times : (y : Held) → In y (q .held) → (now ≤ event y .time) × (event y .time ≤ horizon)
   pub kids : Kids p n xs cells
 
--- the calendar's part is a calendar with the floor `now` that shows the held events: "the calendar holds each station that has an unrun event, at
--- the time of its least one, and no other"
+-- the calendar's part is a calendar with the floor `now` that shows the held events: it has "each station that has an unrun event, at the time of
+-- its least one, and no other"
 pub record Calendared (n c now : ℕ) (xs : List ℕ) (h : List Held) : Type 0 where
   pub sound : Sound (part n c xs)
   pub floor : stateOf (part n c xs) .floor ≡ now

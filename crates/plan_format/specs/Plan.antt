@@ -39,7 +39,7 @@ configAt p at = record {
   seed = loadAt 4 (at + 22) p;
 }
 
--- "Such a record keeps its name in 16 bytes with a length; the reader sets the bytes after the length to 0"
+-- "Such a record keeps its name in 16 bytes with a length; the reader sets the bytes behind the length to 0"
 abbrev pub padded : List ℕ → List ℕ
 padded name = name ++ replicate (16 - length name) 0
 

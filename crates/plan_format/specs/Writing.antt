@@ -67,7 +67,7 @@ writeCases n ss room =
 unfoldable pub writing : ℕ → List Station → ℕ → WriteAnswer
 writing n ss room = firstOf Refused (writeCases n ss room) (Length (length (planOf (take n ss))))
 
--- the output as the call leaves it, "what stands after" the plan unchanged
+-- the output as the call leaves it, "what stands behind" the plan unchanged
 abbrev pub left : WriteAnswer → List ℕ → List ℕ → List ℕ
 left (Length n) plan out = plan ++ drop n out
 left (Refused r) plan out = out
