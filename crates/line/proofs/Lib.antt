@@ -5,4 +5,3 @@ pub mod Fits
 pub mod Sends
 pub mod SendFits
 pub mod Unsuited
-pub mod Sums

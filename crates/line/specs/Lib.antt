@@ -4,4 +4,3 @@ pub mod Matter
 pub mod Station
 pub mod Answer
 pub mod Widths
-pub mod Sums

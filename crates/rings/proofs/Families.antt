@@ -11,7 +11,7 @@ use Rattle.rings.specs.Ring.{hit, occurs, lastOf, inRings, RingIn, Rings
 use Rattle.rings.proofs.Confined.{empty-frame, insert-frame, unlink-frame}
 use Rattle.rings.proofs.Stores.{next-elsewhere, prev-elsewhere, room-same}
 use Rattle.rings.proofs.Counts.{hit-same, hit-ne, occurs-append}
-use Rattle.rings.proofs.Sums.{sum-one, sum-two, sum-same, sum-none, sum-change}
+use Rattle.words.proofs.Sums.{sum-one, sum-two, sum-same, sum-none, sum-change}
 use Rattle.rings.proofs.Changes.{ring-same}
 use Rattle.rings.proofs.RingLaws.{insert-ring, insert-other, unlink-ring, unlink-other, empty-ring, empty-other}
 

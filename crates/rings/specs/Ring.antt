@@ -2,9 +2,10 @@
 use mathlib.Core.Path.{_≡_}
 use mathlib.Core.Bool.{cond}
 use mathlib.Core.List.{List, [], _∷_, _++_}
-use Prim.Native.Nat.{ℕ, zero, suc, _+_, _*_, _≤_, _<_}
+use Prim.Native.Nat.{ℕ, _+_, _*_, _≤_, _<_}
 use lib.Dec.{eqb}
 use lib.ListN.{length}
+use Rattle.words.specs.Sums.{sumTo}
 use Rattle.rings.specs.Table.{nextOf, prevOf}
 
 -- how often i stands in a list
@@ -47,11 +48,6 @@ pub record Room (t : List ℕ) (o n : ℕ) : Type 0 where
   pub few : n ≤ 65536
 
 -- ---- families
-
--- f 0 + .. + f (n - 1)
-abbrev pub sumTo : ℕ → (ℕ → ℕ) → ℕ
-sumTo zero f = 0
-sumTo (suc n) f = sumTo n f + f n
 
 -- how often i stands in the rings of the sentinels 0 to m - 1, where R s is what stands in that of s
 abbrev pub inRings : ℕ → (ℕ → List ℕ) → ℕ → ℕ

@@ -4,3 +4,4 @@ pub mod Total
 pub mod Laws
 pub mod Bytes
 pub mod Run
+pub mod Sums

@@ -1,1 +1,2 @@
 pub mod Le
+pub mod Sums
