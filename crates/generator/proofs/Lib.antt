@@ -1,1 +1,3 @@
 pub mod Edges
+pub mod Schrage
+pub mod Signed
