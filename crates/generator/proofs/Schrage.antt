@@ -7,7 +7,7 @@ use native.Mathlib.Decide.{decLt}
 use native.Mathlib.Omega.{arith}
 use borrow.Author.Tests.{lt-ltb}
 use lib.Arith.{digits-mod}
-use lib.IntN.{ℤ, pos, negsuc, natAbs, pos-ne-negsuc, subℕ, _+ℤ_}
+use lib.IntN.{ℤ, pos, natAbs, pos-ne-negsuc, subℕ, _+ℤ_}
 use lib.Signed.{ltZ}
 use mir.Syntax.{w32}
 use mir.Val.{SFits, toZ, ofZ}
@@ -18,13 +18,13 @@ use Rattle.generator.proofs.Signed.{less-is, above-is, below-is, less-f
 
 -- ---- the products, of any number of 32 bits
 
-pub low-small : (d : ℕ) → low d < 2 ^ 31
+low-small : (d : ℕ) → low d < 2 ^ 31
 low-small d = omega arith
 
-pub high-small : (d : ℕ) → d < 2 ^ 32 → high d < 2 ^ 31
+high-small : (d : ℕ) → d < 2 ^ 32 → high d < 2 ^ 31
 high-small d h = omega arith
 
-pub difference-fits : (d : ℕ) → d < 2 ^ 32 → SFits w32 (differenceOf d)
+difference-fits : (d : ℕ) → d < 2 ^ 32 → SFits w32 (differenceOf d)
 unfolding differenceOf
 difference-fits d h = less-fits (low d) (high d) (low-small d) (high-small d h)
 
@@ -120,7 +120,7 @@ module _ (d : ℕ) (is : IsDraw d) where
 
   -- the difference as it is held, and the two ways of its test
   module _ (z : ℤ) (e : z ≡ differenceOf d) (f : SFits w32 z) where
-    abbrev pub held : ℤ
+    abbrev held : ℤ
     held = toZ w32 (ofZ w32 z)
 
     case : cond (ltZ (pos 0) held) held (held +ℤ pos 2147483647) ≡ pos (nextDraw d)
