@@ -1,7 +1,7 @@
 -- Schrage's cases give the defined draw, and nothing in them leaves signed 32 bits: d = 127773·q + r, so 16807·d = 2147483647·q + (16807·r - 2836·q).
 use mathlib.Core.Path.{_≡_, sym, ap, _∙_, subst}
 use mathlib.Core.Logic.{_≢_}
-use mathlib.Core.Bool.{true, false, cond}
+use mathlib.Core.Bool.{true, false}
 use Prim.Native.Nat.{ℕ, suc, _+_, _*_, _-_, _/_, _%_, _^_, _≤_, _<_}
 use native.Mathlib.Decide.{decLt}
 use native.Mathlib.Omega.{arith}
@@ -16,21 +16,12 @@ use Rattle.generator.specs.Draw.{nextDraw}
 use Rattle.generator.specs.Schrage.{lowProduct as low, highProduct as high, differenceOf, byCases, IsDraw, Schrage}
 use Rattle.generator.proofs.Signed.{less-is, above-is, below-is, less-fits}
 
--- ---- the products, of any number of 32 bits
-
-low-small : (d : ℕ) → low d < 2 ^ 31
-low-small d = omega arith
-
-high-small : (d : ℕ) → d < 2 ^ 32 → high d < 2 ^ 31
-high-small d h = omega arith
-
-difference-fits : (d : ℕ) → d < 2 ^ 32 → SFits w32 (differenceOf d)
-unfolding differenceOf
-difference-fits d h = less-fits (low d) (high d) (low-small d) (high-small d h)
-
--- ---- a draw of 1 to 2147483646
-
 module _ (d : ℕ) (is : IsDraw d) where
+  -- ---- the products
+
+  low-most : low d ≤ 2147464004
+  low-most = omega arith
+
   high-most : high d ≤ 47664652
   high-most = omega (arith, is .1)
 
@@ -42,15 +33,15 @@ module _ (d : ℕ) (is : IsDraw d) where
       let m : d ≡ 2147483647 * t = omega arith in
       omega (arith, is .0, is .1)
 
-  -- so one of the two is less
-  data Order : Type 0 where
-    positive : high d < low d → Order
-    negative : low d < high d → Order
+  -- so the difference has a sign
+  data Sign : Type 0 where
+    positive : high d < low d → Sign
+    negative : low d < high d → Sign
 
-  order : Order
-  order = go (decLt (high d) (low d)) (decLt (low d) (high d))
+  sign : Sign
+  sign = go (decLt (high d) (low d)) (decLt (low d) (high d))
     where
-      go : Dec (high d < low d) → Dec (low d < high d) → Order
+      go : Dec (high d < low d) → Dec (low d < high d) → Sign
       go (yes l) k = positive l
       go (no l) (yes k) = negative k
       go (no l) (no k) = absurd (differ (omega arith))
@@ -70,19 +61,21 @@ module _ (d : ℕ) (is : IsDraw d) where
       let k : n < 2147483647 = omega arith in
       sym (ap (λ m. m % 2147483647) e ∙ digits-mod (d / 127773 - 1) k)
 
+  -- ---- the claim
+
   never-0 : differenceOf d ≢ pos 0
   unfolding differenceOf
-  never-0 e = go order (sym (less-is (low d) (high d)) ∙ e)
+  never-0 e = go sign (sym (less-is (low d) (high d)) ∙ e)
     where
-      go : Order → subℕ (low d) (high d) ≢ pos 0
+      go : Sign → subℕ (low d) (high d) ≢ pos 0
       go (positive l) h = differ (let z : low d - high d ≡ 0 = ap natAbs (sym (above-is (low d) (high d) (omega arith)) ∙ h) in omega arith)
       go (negative l) h = pos-ne-negsuc 0 (high d - suc (low d)) (sym h ∙ below-is (low d) (high d) l)
 
   same : byCases (differenceOf d) ≡ pos (nextDraw d)
   unfolding byCases differenceOf
-  same = ap (λ z. cond (ltZ (pos 0) z) z (z +ℤ pos 2147483647)) (less-is (low d) (high d)) ∙ go order
+  same = ap byCases (less-is (low d) (high d)) ∙ go sign
     where
-      go : Order → cond (ltZ (pos 0) (subℕ (low d) (high d))) (subℕ (low d) (high d)) (subℕ (low d) (high d) +ℤ pos 2147483647) ≡ pos (nextDraw d)
+      go : Sign → byCases (subℕ (low d) (high d)) ≡ pos (nextDraw d)
       go (positive l) = rw (above-is (low d) (high d) (omega arith), lt-ltb 0 (low d - high d) (omega arith)) (ap pos (above l))
       go (negative l) =
           let s : ℕ = high d - suc (low d) in
@@ -90,20 +83,18 @@ module _ (d : ℕ) (is : IsDraw d) where
           rw (below-is (low d) (high d) l) (above-is 2147483647 (suc s) (omega (arith, high-most)) ∙ ap pos (e ∙ below l))
 
   again : IsDraw (nextDraw d)
-  again = go order
+  again = go sign
     where
-      go : Order → IsDraw (nextDraw d)
+      go : Sign → IsDraw (nextDraw d)
       go (positive l) = subst IsDraw (above l) (omega arith, omega (arith, low-most))
-        where
-          low-most : low d ≤ 2147464004
-          low-most = omega arith
       go (negative l) = subst IsDraw (below l) (omega (arith, high-most), omega arith)
 
   pub schrage : Schrage d
+  unfolding differenceOf
   schrage = record {
-    low-signed = record { sfits = low-small d };
-    high-signed = record { sfits = high-small d (omega (arith, is .1)) };
-    difference-signed = difference-fits d (omega (arith, is .1));
+    low-signed = record { sfits = omega (arith, low-most) };
+    high-signed = record { sfits = omega (arith, high-most) };
+    difference-signed = less-fits (low d) (high d) (omega (arith, low-most)) (omega (arith, high-most));
     never-0 = never-0;
     same = same;
     again = again;
@@ -123,12 +114,13 @@ module _ (d : ℕ) (is : IsDraw d) where
     abbrev held : ℤ
     held = toZ w32 (ofZ w32 z)
 
-    case : cond (ltZ (pos 0) held) held (held +ℤ pos 2147483647) ≡ pos (nextDraw d)
-    unfolding byCases
-    case = ap (λ v. cond (ltZ (pos 0) v) v (v +ℤ pos 2147483647)) (toZ-ofZ f ∙ e) ∙ same
+    case : byCases held ≡ pos (nextDraw d)
+    case = ap byCases (toZ-ofZ f ∙ e) ∙ same
 
     pub taken : ltZ (pos 0) held ≡ true → held ≡ pos (nextDraw d)
+    unfolding byCases
     taken t = rw t at case
 
     pub added : ltZ (pos 0) held ≡ false → held +ℤ pos 2147483647 ≡ pos (nextDraw d)
+    unfolding byCases
     added t = rw t at case

@@ -23,11 +23,11 @@ module _ (c : tie.After-difference) where
   abbrev next : ℤ
   next = pos (nextDraw (c .before .args .seed))
 
-positive : (c : tie.Then1) → test (c .before) ≡ next (c .before)
-positive c = let d = c .before .difference in taken _ (is (c .before)) (d .result) (d .ensures) (record { sfits = d .ok }) (c .if1 .taken)
-
 negative : (c : tie.Else1) → test (c .before) +ℤ pos 2147483647 ≡ next (c .before)
 negative c = let d = c .before .difference in added _ (is (c .before)) (d .result) (d .ensures) (record { sfits = d .ok }) (c .if1 .left)
+
+positive : (c : tie.Then1) → test (c .before) ≡ next (c .before)
+positive c = let d = c .before .difference in taken _ (is (c .before)) (d .result) (d .ensures) (record { sfits = d .ok }) (c .if1 .taken)
 
 cast-positive : tie.Need-cast-result
 cast-positive c = number-casts (positive c) (draw-small _ (is (c .before)))
