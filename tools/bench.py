@@ -1,5 +1,5 @@
 #!/usr/bin/env python3
-"""What the bench prints, from a reading of document 01 that shares nothing with the crates: the engine is that of tools/worked.py.
+"""What the bench prints, from a reading of documents 01 and 02 that shares nothing with the crates: the engine is that of tools/worked.py.
 
   python3 tools/bench.py plan.txt < commands > expected
 

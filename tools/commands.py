@@ -18,7 +18,7 @@ def command(dice, engine, count):
     station, time = dice.randrange(count + 1), now + dice.randrange(120)
     if roll < 14:
         kind = dice.choice([1, 2, 2, 2, 3, 3, 3, 3, 4])
-        value = {1: 0, 2: dice.randrange(count + 1), 3: dice.randrange(10000)}.get(kind, 0)
+        value = {1: 0, 2: dice.randrange(count + 1) + 256 * dice.choice([0, 0, 0, 1, 2, 3, 4]), 3: dice.randrange(10000)}.get(kind, 0)
         return "post %d %d %d %d" % (station, time - (roll == 0), kind, value)
     if roll < 20:
         return "retract %d" % max(0, engine.next - dice.randrange(6))

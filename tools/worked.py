@@ -1,5 +1,5 @@
 #!/usr/bin/env python3
-"""Worked lists of calls for crate rules_worked, from a reading of document 01 that shares nothing with the crates.
+"""Worked lists of calls for crate rules_worked, from a reading of documents 01 and 02 that shares nothing with the crates.
 
   python3 tools/worked.py > crates/rules_worked/proofs/Lists.antt
 
@@ -33,11 +33,12 @@ def run_event(config, state, key, matter):
         after["draw"] = 16807 * after["draw"] % 2147483647
         if after["draw"] <= config["noise"]:
             after["lost"] += 1
-            send(time + config["hop"], station, matter)
+            if value // 256 < 3:
+                send(time + config["hop"], station, (2, value + 256))
         else:
             after["heard"] += 1
             if station > 0:
-                send(time + config["hop"], config["parent"], matter)
+                send(time + config["hop"], config["parent"], (2, value % 256))
     if kind == 3:
         after["level"] = value
     return after, sends
@@ -91,7 +92,7 @@ class Engine:
         return [k for k in self.matter if k not in self.before]
 
     def post(self, station, time, kind, value):
-        suits = {1: value == 0, 2: value < len(self.plan), 3: value <= LARGEST}
+        suits = {1: value == 0, 2: value % 256 < len(self.plan) and value // 256 <= 3, 3: value <= LARGEST}
         if station >= len(self.plan):
             return ("Refused", 9)
         if not suits.get(kind, False):
@@ -167,7 +168,7 @@ def pick(dice, engine, stations):
     roll = dice.random()
     if roll < 0.24 or not engine.matter:
         time = max(0, engine.now + dice.randrange(-2, 90))
-        return ("post", dice.randrange(stations + (roll < 0.02)), time, *dice.choice([(1, 0), (1, 0), (2, 0), (2, 1), (3, 9), (3, 1), (dice.randrange(5), dice.randrange(7))]))
+        return ("post", dice.randrange(stations + (roll < 0.02)), time, *dice.choice([(1, 0), (1, 0), (2, 0), (2, 1 + 256 * dice.randrange(5)), (3, 9), (3, 1), (dice.randrange(5), dice.randrange(7))]))
     if roll < 0.32:
         return ("retract", dice.randrange(engine.next + 1))
     if roll < 0.62:
@@ -217,7 +218,7 @@ def scenario(seed, length):
 
 def matter_text(matter):
     kind, value = matter
-    return {1: "Read", 2: f"(Frame {value})", 3: f"(Level {value})"}[kind]
+    return {1: "Read", 2: f"(Frame {value % 256} {value // 256})", 3: f"(Level {value})"}[kind]
 
 
 def answer_text(answer):
@@ -255,25 +256,25 @@ use Rattle.generator.specs.Draw.{nextDraw}
 use Rattle.line.specs.declared.Config.{Config}
 use Rattle.line.specs.declared.Matter.the-variants.{Read, Frame, Level}
 use Rattle.line.specs.Event.{decide, lex, before}
-use Rattle.line.specs.Matter.{matterOf}
-use Rattle.line.specs.Station.{parentOut, numberOut, update, initial, send, silent, period, runRead, drawnState, lose, hear, pass, runFrame, runLevel, runMatter, runAt, runEvent}
+use Rattle.line.specs.Matter.{frameOf, matterOf}
+use Rattle.line.specs.Station.{parentOut, numberOut, update, initial, send, silent, period, runRead, drawnState, lose, hear, repeat, pass, runFrame, runLevel, runMatter, runAt, runEvent}
 use Rattle.rules.specs.Held.{same, delete, place, leastUnrun, mark, isRun, undone, heldPost, noneUnrun, unrunBefore, logged, kept, recordOf}
 use Rattle.rules.specs.Engine.{opened, Call, Post, Retract, RunStation, RunLowest, Commit, Record, Answer, Refused, Posted, Retracted, Ran, Committed, Recorded}
 use Rattle.rules.specs.Checks.{checks}
-use Rattle.rules.specs.Entry.{entry, entries}
+use Rattle.entry.specs.Entry.{entry, entries}
 use Rattle.rules.specs.Calls.{postOf, with}
-use Rattle.rules.proofs.Functions.{runs, beyond, orThis, latest, removeEach, undoFound, undoWithin, undoFrom, remove, add, addAll, runLeast}
-use Rattle.rules.proofs.Compute.{settle, postStep, retractStep, runStep, stationStep, lowestOf, commitStep, answerTo, answersTo}
+use Rattle.rules.specs.Executable.{runs, beyond, orThis, latest, removeEach, undoFound, undoWithin, undoFrom, removing, adding, addAll, runLeast}
+use Rattle.rules.proofs.Calls.Compute.{settle, postStep, retractStep, runStep, stationStep, lowestOf, commitStep, answerTo, answersTo}
 use Rattle.rules_worked.proofs.Check.{nth, allIn, in-range, at, zeros, pairs, Gives, computed}
 """
 
 UNFOLDING = """    settle postStep retractStep runStep stationStep lowestOf commitStep answerTo answersTo
-    runs beyond orThis latest removeEach undoFound undoWithin undoFrom remove add addAll runLeast
-    postOf with entry entries bytesOf checks orNext judged opened matterOf
+    runs beyond orThis latest removeEach undoFound undoWithin undoFrom removing adding addAll runLeast
+    postOf with entry entries bytesOf checks orNext judged opened frameOf matterOf
     same delete place leastUnrun mark isRun undone heldPost noneUnrun unrunBefore logged kept recordOf
-    decide lex before update initial send silent period runRead drawnState lose hear pass runFrame runLevel runMatter runAt runEvent nextDraw"""
+    decide lex before update initial send silent period runRead drawnState lose hear repeat pass runFrame runLevel runMatter runAt runEvent nextDraw"""
 
-LISTS = [(342, 70), (1463, 60)]  # the first meets eight of the numbers, the second takes back thirteen events at once
+LISTS = [(253, 70), (2870, 70)]  # the first meets eight of the numbers, the second takes back seventeen events at once; both give a frame up
 
 
 def main():

@@ -66,12 +66,12 @@ at-most-10 v h = few 9 v (omega arith) (omega arith)
 
 kind-small : (m : Matter) → kindOf m < 2 ^ 32
 kind-small Read = omega arith
-kind-small (Frame origin) = omega arith
+kind-small (Frame origin repeats) = omega arith
 kind-small (Level mm) = omega arith
 
 value-small : (m : Matter) (vs : List Val) → Is (Enum.row M.the-type) m vs → valueOf m < 2 ^ 32
 value-small Read vs p = omega arith
-value-small (Frame origin) vs p = p .1 .1 .1 .1 .0 .1
+value-small (Frame origin repeats) vs p = omega (arith, p .1 .1 .1 .1 .0 .1, p .1 .1 .1 .1 .1 .0 .1)
 value-small (Level mm) vs p = p .1 .1 .1 .1 .0 .1
 
 pub entry-room : (x : Event) (vs : List Val) → Is (Struct.row E.the-type) x vs → length (entryLine x) ≤ 96

@@ -33,6 +33,7 @@ use Rattle.rules.proofs.Undo.Exist.{can-add}
 use Rattle.rules.proofs.Undo.Count.{undone-undos, does-falls}
 use Rattle.rules.proofs.Calls.Invariant.{post-new}
 use Rattle.line.specs.Widths.{EventFits}
+use Rattle.line.proofs.Suits.{suits-fit, means-suits}
 use Rattle.engine_index.specs.Represents.{cell}
 use Rattle.engine_events.specs.Promises.{AfterHeader}
 use Rattle.engine_rollback.specs.BetweenSteps.{RollsTo}
@@ -48,26 +49,6 @@ use Rattle.engine_promises.proofs.Header.{header-frame, header-word, header-oth
 use Rattle.engine_promises.proofs.PostRunChecks.{PostPasses, post-passes}
 use Rattle.engine_promises.proofs.NewEvents.{as-new}
 use Rattle.engine_promises.proofs.Refused.{judged-refused}
-
--- ---- the value of a matter that a kind and a value mean
-
-suits : (v : Bool) (a m : Matter) → valueOf a < 2 ^ 32 → suited v a ≡ Means m → valueOf m < 2 ^ 32
-suits true a m l e = let z : a ≡ m = cc in rw z at l
-suits false a m l e = let z : _≡_ {A = ℕ} 0 1 = cc in absurd (omega arith)
-
-matter-fits : (n kind value : ℕ) (m : Matter) → n ≤ 256 → matterOf n kind value ≡ Means m → valueOf m < 2 ^ 32
-unfolding matterOf
-matter-fits n kind value m h e = go (eqb kind 1) (eqb kind 2) (eqb kind 3) (ltb value n) (leb value 4294967295) refl refl e
-  where
-    go : (a b d v w : Bool) → ltb value n ≡ v → leb value 4294967295 ≡ w
-        → cond a (suited (eqb value 0) Read) (cond b (suited v (Frame value)) (cond d (suited w (Level value)) (Unsuited N.Matter))) ≡ Means m
-        → valueOf m < 2 ^ 32
-    go true b d v w i j k = suits (eqb value 0) Read m (omega arith) k
-    go false true d true w i j k = suits true (Frame value) m (omega (arith, ltb-true value n i)) k
-    go false true d false w i j k = let z : _≡_ {A = ℕ} 0 1 = cc in absurd (omega arith)
-    go false false true v true i j k = suits true (Level value) m (omega (arith, leb-true value 4294967295 j)) k
-    go false false true v false i j k = let z : _≡_ {A = ℕ} 0 1 = cc in absurd (omega arith)
-    go false false false v w i j k = let z : _≡_ {A = ℕ} 0 1 = cc in absurd (omega arith)
 
 -- ---- an accepted post
 
@@ -93,7 +74,7 @@ module _ {p : Plan} {e : Engine} {xs : List ℕ} (R : Represents p e xs) (s t ki
   fits = record {
     time = omega (arith, passes .in-time);
     number = omega (arith, passes .numbered);
-    value = matter-fits (p .count) kind value m (stations-few R) k;
+    matter = suits-fit (p .count) m (stations-few R) (means-suits (p .count) kind value m k);
     target = omega (arith, passes .inside, stations-few R);
     source = omega arith;
   }

@@ -1,4 +1,3 @@
-pub mod SendTargets
 pub mod Cells
 pub mod TakenOut
 pub mod OrderKept

@@ -11,7 +11,9 @@ use Rattle.line.specs.Order.{Ge, All}
 use Rattle.rules.specs.Held.{ran, event, In, Queue, unmark}
 use Rattle.rules.specs.Undo.{NoneLater}
 use Rattle.rules.specs.Executable.{runs, removeAll, undoEvent}
+use Rattle.line.proofs.All.{all-both}
 use Rattle.line.proofs.Members.{all-in}
+use Rattle.line.proofs.Sends.{sends-down}
 use Rattle.rules.proofs.Replay.Replay.{sends-later}
 use Rattle.rules.proofs.Replay.Unmark.{Latest, found-runs}
 use Rattle.rules.proofs.Undo.RunFirst.{first-in}
@@ -27,16 +29,10 @@ use Rattle.engine_events.specs.Represents.{Has, Holds, Nodes, none, nonzero, se
 use Rattle.engine_moves.specs.Promises.{NoneWaits, HoldsAmong}
 use Rattle.engine_rollback.specs.BetweenSteps.{Mid, RollsTo}
 use Rattle.engine_rollback.specs.Promises.{RemovesBelow}
-use Rattle.engine_rollback.proofs.SendTargets.{sends-down}
 use Rattle.engine_rollback.proofs.Cells.{has-held, from-on, nodes-stay}
 use Rattle.engine_rollback.proofs.TakenOut.{are-held}
 use Rattle.engine_rollback.proofs.OrderKept.{latest-of}
 use Rattle.engine_rollback.proofs.SendsRemoved.{Child, Due, Partly, partly}
-
--- all of two facts
-both : {P Q : Event → Type 0} {R : Event → Type 0} → ((y : Event) → P y → Q y → R y) → (ys : List Event) → All P ys → All Q ys → All R ys
-both f [] a b = tt
-both f (y ∷ ys) a b = (f y (a .0) (b .0), both f ys (a .1) (b .1))
 
 -- no nodes are left, so no sends
 nothing-left : {cells : List Cell} {es : List Event} (p : Plan) (q : Queue) → Nodes cells [] es → removeAll p es q ≡ q
@@ -66,7 +62,7 @@ module _ {p : Plan} {n c now : ℕ} {xs : List ℕ} {q : Queue} {cells : List Ce
   inside = all-in (λ z. event z .target < p .count) run (M .neat .inside)
 
   sent : All (Child e) es
-  sent = both (λ y l d. record { later = l; down = d }) es (sends-later p (M .range) b e inside) (sends-down p (M .range) b e inside)
+  sent = all-both (λ y l d. record { later = l; down = d }) es (sends-later p (M .range) b e inside) (sends-down p (M .range) b e inside)
 
   due-here : {ys : List ℕ} {ks : List ℕ} → (B : HoldsAmong p n c now ys unrunning cells) → Nodes cells ks es
       → Due p n c now ys unrunning (B .after) ks es ws st e

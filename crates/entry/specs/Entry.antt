@@ -1,7 +1,7 @@
 -- An event's 24 bytes, as a commit writes them, and the event that stands at a byte of a list (document 01, "Engine calls").
 use mathlib.Core.Bool.{cond}
 use mathlib.Core.List.{List, [], _∷_, _++_}
-use Prim.Native.Nat.{ℕ, _+_}
+use Prim.Native.Nat.{ℕ, _+_, _/_, _%_}
 use lib.Dec.{eqb}
 use Rattle.words.specs.Le.{bytesOf, loadAt, storeAt}
 use Rattle.line.specs.declared.Event.{Event}
@@ -19,9 +19,9 @@ entries (x ∷ xs) = entry x ++ entries xs
 
 -- ---- at a byte of a list
 
--- the matter of a kind; a reading where there is no such kind
+-- the matter of a kind and a value, a frame's of the lower two bytes; a reading where there is no such kind
 unfoldable pub matterOr : ℕ → ℕ → Matter
-matterOr kind value = cond (eqb kind 2) (Frame value) (cond (eqb kind 3) (Level value) Read)
+matterOr kind value = cond (eqb kind 2) (Frame (value % 256) (value / 256 % 256)) (cond (eqb kind 3) (Level value) Read)
 
 unfoldable pub eventAt : ℕ → List ℕ → Event
 eventAt at xs = record {

@@ -5,12 +5,12 @@ ghost use Rattle.entry.specs.Entry.{eventAt, putEvent, matterOr};
 use line::Event;
 use line::Matter;
 
-// The matter of a kind; a reading where there is no such kind.
+// The matter of a kind and a value, a frame's of the lower two bytes; a reading where there is no such kind.
 fn matter(kind: u32, value: u32) -> Matter
     ensures { λ r. ⌜ r ≡ matterOr kind value ⌝ }
 {
     match kind {
-        2 => Matter::Frame(value),
+        2 => Matter::Frame((value % 256) as u16, (value / 256 % 256) as u8),
         3 => Matter::Level(value),
         _ => Matter::Read,
     }

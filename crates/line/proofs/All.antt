@@ -7,6 +7,10 @@ pub all-map : {A : Type 0} {P Q : A → Type 0} → ((x : A) → P x → Q x) �
 all-map f [] a = tt
 all-map f (x ∷ xs) a = (f x (a .0), all-map f xs (a .1))
 
+pub all-both : {A : Type 0} {P Q R : A → Type 0} → ((x : A) → P x → Q x → R x) → (xs : List A) → All P xs → All Q xs → All R xs
+all-both f [] a b = tt
+all-both f (x ∷ xs) a b = (f x (a .0) (b .0), all-both f xs (a .1) (b .1))
+
 pub all-snoc : {A : Type 0} (P : A → Type 0) (xs : List A) (y : A) → All P xs → P y → All P (xs ++ (y ∷ []))
 all-snoc P [] y a h = (h, tt)
 all-snoc P (x ∷ xs) y a h = (a .0, all-snoc P xs y (a .1) h)

@@ -2,6 +2,8 @@ pub mod All
 pub mod Members
 pub mod Order
 pub mod Fits
+pub mod Outcomes
 pub mod Sends
 pub mod SendFits
 pub mod Unsuited
+pub mod Suits

@@ -1,5 +1,5 @@
 -- The laws of running an event, which are all that anything above it uses: the sends come later than their cause and not after the horizon,
--- from the station, to stations, at most two, with the numbers from `sent` on.
+-- from the station, to itself or a lower one, at most two, with the numbers from `sent` on.
 use mathlib.Core.Path.{_≡_, refl}
 use mathlib.Core.Bool.{Bool, true, false, cond}
 use mathlib.Core.List.{[], _∷_, _++_}
@@ -7,19 +7,18 @@ use Prim.Native.Nat.{ℕ, suc, _+_, _≤_, _<_}
 use native.Mathlib.Nat.{le-refl}
 use native.Mathlib.Omega.{arith}
 use lib.ListN.{length, length-append}
-use lib.Dec.{leb, eqb, leb→le}
-use Rattle.generator.specs.Draw.{nextDraw}
+use lib.Dec.{leb, leb→le}
 use Rattle.refusal.specs.Tests.{horizon}
 use Rattle.line.specs.declared.Config.{Config}
 use Rattle.line.specs.declared.Event.{Event}
 use Rattle.line.specs.declared.Matter.{Matter}
-use Rattle.line.specs.declared.Matter.the-variants.{Read, Frame, Level}
 use Rattle.line.specs.declared.State.{State}
-use Rattle.line.specs.Station.{Plan, InRange, Outcome, send, silent, period, runRead, drawnState, lose, hear, pass, runFrame, runLevel, runMatter, runAt, runEvent}
+use Rattle.line.specs.Station.{Plan, InRange, Outcome, send, silent, period, drawnState, lose, hear, runMatter, runAt, runEvent}
 use Rattle.line.specs.Order.{Differ, All}
 use Rattle.line.proofs.Order.{differ-number}
 use Rattle.line.proofs.Fits.{Fits, fits}
 use Rattle.line.proofs.All.{all-map, all-snoc, Distinct, distinct-snoc}
+use Rattle.line.proofs.Outcomes.{Leaves, unchanged, lost, heard, level, MaySend, next-reading, own-frame, repeated, passed-on, Shape, none, one, two, shape, by-shape}
 
 -- the event of one more send of station s on o, and o with that send made
 abbrev pub sending : ℕ → ℕ → ℕ → Matter → Outcome → Event
@@ -80,9 +79,13 @@ module _ (n s t lo : ℕ) where
       go true e = in-time (leb→le u horizon (rw e tt))
       go false e = g
 
-  either : (v : Bool) (a b : Outcome) → Good n s t lo a → Good n s t lo b → Good n s t lo (cond v a b)
-  either true a b p q = p
-  either false a b p q = q
+-- a state that is left has the number that the next send takes
+sent-kept : {st v : State} {m : Matter} → Leaves st m v → v .sent ≡ st .sent
+unfolding lose hear drawnState
+sent-kept unchanged = refl
+sent-kept lost = refl
+sent-kept heard = refl
+sent-kept level = refl
 
 module _ (s : ℕ) (c : Config) (F : Fits s c) where
   period-least : (st : State) → 1 ≤ period c st
@@ -93,26 +96,65 @@ module _ (s : ℕ) (c : Config) (F : Fits s c) where
       go true = F .spring-least
       go false = F .calm-least
 
+  later : {t u to : ℕ} {st : State} {m k : Matter} → MaySend c s t st m u to k → t < u
+  later {st = st} next-reading = omega (arith, period-least st)
+  later own-frame = omega (arith, F .hop-least)
+  later (repeated h) = omega (arith, F .hop-least)
+  later passed-on = omega (arith, F .hop-least)
+
+  lower : {t u to : ℕ} {st : State} {m k : Matter} → MaySend c s t st m u to k → to ≤ s
+  lower next-reading = le-refl s
+  lower own-frame = F .parent-most
+  lower (repeated h) = le-refl s
+  lower passed-on = F .parent-most
+
   matter-good : (n t : ℕ) → s < n → (m : Matter) (st : State) → Good n s t (st .sent) (runMatter c s t m st)
-  unfolding runMatter runRead runFrame runLevel pass lose hear drawnState
-  matter-good n t h Read st =
-      either n s t (st .sent) (eqb s 0) _ _ (silent-good n s t (st .sent) st refl)
-      (send-good n s t (st .sent) (t + c .hop) (c .parent) (Frame s) _ (omega (arith, F .hop-least)) (omega (arith, F .parent-most))
-      (send-good n s t (st .sent) (t + period c st) s Read _ (omega (arith, period-least st)) h (silent-good n s t (st .sent) st refl)))
-  matter-good n t h (Frame origin) st =
-      either n s t (st .sent) (leb (nextDraw (st .draw)) (c .noise)) _ _
-      (send-good n s t (st .sent) (t + c .hop) s (Frame origin) _ (omega (arith, F .hop-least)) h (silent-good n s t (st .sent) (lose (drawnState st)) refl))
-      (either n s t (st .sent) (eqb s 0) _ _ (silent-good n s t (st .sent) (hear (drawnState st)) refl)
-      (send-good n s t (st .sent) (t + c .hop) (c .parent) (Frame origin) _ (omega (arith, F .hop-least)) (omega (arith, F .parent-most))
-      (silent-good n s t (st .sent) (hear (drawnState st)) refl)))
-  matter-good n t h (Level mm) st = silent-good n s t (st .sent) _ refl
+  matter-good n t h m st =
+      by-shape (Good n s t (st .sent)) c s t st m (λ v l. silent-good n s t (st .sent) v (sent-kept l))
+      (λ u to k o a g. send-good n s t (st .sent) u to k o (later a) (omega (arith, lower a)) g)
+
+station-fits : (p : Plan) → InRange p → (s : ℕ) → s < p .count → Fits s (p .config s)
+station-fits p S s h = fits s (p .config s) (S .each s h)
 
 -- the law that everything above rests on
 pub event-good : (p : Plan) → InRange p → (st : State) (x : Event) → x .target < p .count → Good (p .count) (x .target) (x .time) (st .sent) (runEvent p st x)
 unfolding runEvent runAt
-event-good p S st x h = matter-good (x .target) (p .config (x .target)) (fits (x .target) (p .config (x .target)) (S .each (x .target) h)) (p .count) (x .time) h (x .matter) st
+event-good p S st x h = matter-good (x .target) (p .config (x .target)) (station-fits p S (x .target) h) (p .count) (x .time) h (x .matter) st
+
+-- ---- each send is one that may be made
+
+silent-all : (P : Event → Type 0) (st : State) → All P (silent st .sends)
+unfolding silent
+silent-all P st = tt
+
+send-all : (P : Event → Type 0) (s u to : ℕ) (m : Matter) (o : Outcome) → P (sending s u to m o) → All P (o .sends) → All P (send s u to m o .sends)
+unfolding send
+send-all P s u to m o h a = go (leb u horizon)
+  where
+    go : (v : Bool) → All P ((cond v (made s u to m o) o) .sends)
+    go true = all-snoc P (o .sends) (sending s u to m o) a h
+    go false = a
+
+-- y is one of those that running x from st may send
+abbrev Allowed : Plan → State → Event → Event → Type 0
+Allowed p st x y = MaySend (p .config (x .target)) (x .target) (x .time) st (x .matter) (y .time) (y .target) (y .matter)
+
+pub sends-allowed : (p : Plan) (st : State) (x : Event) → All (Allowed p st x) (runEvent p st x .sends)
+unfolding runEvent runAt
+sends-allowed p st x =
+    by-shape (λ o. All (Allowed p st x) (o .sends)) (p .config (x .target)) (x .target) (x .time) st (x .matter)
+    (λ v l. silent-all (Allowed p st x) v) (λ u to k o a i. send-all (Allowed p st x) (x .target) u to k o a i)
+
+-- to the station itself or a lower one
+pub sends-down : (p : Plan) → InRange p → (st : State) (x : Event) → x .target < p .count → All (λ y. y .target ≤ x .target) (runEvent p st x .sends)
+sends-down p S st x h =
+    all-map (λ y a. lower (x .target) (p .config (x .target)) (station-fits p S (x .target) h) a) (runEvent p st x .sends) (sends-allowed p st x)
 
 -- ---- at most two sends
+
+silent-few : (st : State) → length (silent st .sends) ≡ 0
+unfolding silent
+silent-few st = refl
 
 send-few : (s u to : ℕ) (m : Matter) (o : Outcome) → length (send s u to m o .sends) ≤ suc (length (o .sends))
 unfolding send
@@ -122,26 +164,12 @@ send-few s u to m o = go (leb u horizon)
     go true = omega (arith, length-append (o .sends) (sending s u to m o ∷ []))
     go false = omega arith
 
-either-few : (v : Bool) (a b : Outcome) → length (a .sends) ≤ 2 → length (b .sends) ≤ 2 → length ((cond v a b) .sends) ≤ 2
-either-few true a b h k = h
-either-few false a b h k = k
-
-silent-few : (st : State) → length (silent st .sends) ≡ 0
-unfolding silent
-silent-few st = refl
-
-matter-few : (c : Config) (s t : ℕ) (m : Matter) (st : State) → length (runMatter c s t m st .sends) ≤ 2
-unfolding runMatter runRead runFrame runLevel pass
-matter-few c s t Read st =
-    either-few (eqb s 0) _ _ (omega (arith, silent-few st))
-    (omega (arith, send-few s (t + c .hop) (c .parent) (Frame s) (send s (t + period c st) s Read (silent st)), send-few s (t + period c st) s Read (silent st), silent-few st))
-matter-few c s t (Frame origin) st =
-    either-few (leb (nextDraw (st .draw)) (c .noise)) _ _
-    (omega (arith, send-few s (t + c .hop) s (Frame origin) (silent (lose (drawnState st))), silent-few (lose (drawnState st))))
-    (either-few (eqb s 0) _ _ (omega (arith, silent-few (hear (drawnState st))))
-    (omega (arith, send-few s (t + c .hop) (c .parent) (Frame origin) (silent (hear (drawnState st))), silent-few (hear (drawnState st)))))
-matter-few c s t (Level mm) st = omega (arith, silent-few (record { draw = st .draw; level = mm; heard = st .heard; lost = st .lost; sent = st .sent }))
+shape-few : {c : Config} {s t : ℕ} {st : State} {m : Matter} {o : Outcome} → Shape c s t st m o → length (o .sends) ≤ 2
+shape-few (none {v} l) = omega (arith, silent-few v)
+shape-few {s = s} (one {v} {u} {to} {k} l a) = omega (arith, silent-few v, send-few s u to k (silent v))
+shape-few {s = s} (two {v} {u} {to} {u′} {to′} {k} {k′} l a b) =
+    omega (arith, silent-few v, send-few s u to k (silent v), send-few s u′ to′ k′ (send s u to k (silent v)))
 
 pub sends-few : (p : Plan) (st : State) (x : Event) → length (runEvent p st x .sends) ≤ 2
 unfolding runEvent runAt
-sends-few p st x = matter-few (p .config (x .target)) (x .target) (x .time) (x .matter) st
+sends-few p st x = shape-few (shape (p .config (x .target)) (x .target) (x .time) st (x .matter))

@@ -1,6 +1,7 @@
--- An event's matter, its kind and its value (document 01, "Events and stations" and number 10).
-use Prim.Native.Nat.{ℕ}
-use mathlib.Core.Bool.{Bool, true, false, cond}
+-- An event's matter, its kind and its value (document 01, "Events and stations" and number 10; document 02, change 2).
+use Prim.Native.Nat.{ℕ, _+_, _*_, _/_, _%_}
+use mathlib.Core.Path.{_≡_}
+use mathlib.Core.Bool.{Bool, true, false, cond, _&&_}
 use lib.Dec.{eqb, ltb, leb}
 use Rattle.refusal.specs.Numbers.{numberOf}
 use Rattle.refusal.specs.Tests.{largest, Verdict, accepted, refused}
@@ -14,11 +15,16 @@ use Rattle.line.specs.declared.Meant.the-variants.{Means, Refused}
 abbrev pub suited : Bool → Matter → Meant
 suited suits m = cond suits (Means m) (Refused R.Matter)
 
--- "a reading (kind 1, value 0), a frame with its origin (2, value an origin below N) or a level (3, value in mm)"
+-- "A frame's value becomes its origin plus 256 times the repeats made, 0 to 3." "Number 10 refuses a posted frame whose repeats exceed 3 or whose
+-- origin is N or more." (document 02, change 2)
+unfoldable pub frameOf : ℕ → ℕ → Meant
+frameOf n value = suited (leb (value / 256) 3 && ltb (value % 256) n) (Frame (value % 256) (value / 256))
+
+-- "a reading (kind 1, value 0), a frame with its origin (2, ..) or a level (3, value in mm)"
 unfoldable pub matterOf : ℕ → ℕ → ℕ → Meant
 matterOf n kind value =
     cond (eqb kind 1) (suited (eqb value 0) Read)
-    (cond (eqb kind 2) (suited (ltb value n) (Frame value))
+    (cond (eqb kind 2) (frameOf n value)
     (cond (eqb kind 3) (suited (leb value largest) (Level value)) (Refused R.Matter)))
 
 -- the number that an answer says
@@ -33,10 +39,14 @@ unsuited (Refused e) = true
 
 abbrev pub kindOf : Matter → ℕ
 kindOf Read = 1
-kindOf (Frame origin) = 2
+kindOf (Frame origin repeats) = 2
 kindOf (Level mm) = 3
 
 abbrev pub valueOf : Matter → ℕ
 valueOf Read = 0
-valueOf (Frame origin) = origin
+valueOf (Frame origin repeats) = origin + 256 * repeats
 valueOf (Level mm) = mm
+
+-- the matter m is one that number 10 accepts on a line of n stations
+abbrev pub Suits : ℕ → Matter → Type 0
+Suits n m = matterOf n (kindOf m) (valueOf m) ≡ Means m

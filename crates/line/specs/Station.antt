@@ -1,4 +1,4 @@
--- Stations, their state, and what running an event does (document 01, "Plan of a line" and "Events and stations"). A station's numbers and its
+-- Stations, their state, and what running an event does (document 01, "Plan of a line" and "Events and stations"; document 02, change 2). A station's numbers and its
 -- state are the declared Config and State of src/.
 use Prim.Native.Nat.{ℕ, zero, suc, _+_, _≤_, _<_}
 use mathlib.Core.Path.{_≡_}
@@ -77,7 +77,7 @@ period c st = cond (leb (c .threshold) (st .level)) (c .spring) (c .calm)
 -- "Reading, station 0: nothing. Elsewhere: first a reading to itself at t + period, value 0, then a frame to its parent at t + hop delay, value
 -- its own number."
 unfoldable pub runRead : Config → ℕ → ℕ → State → Outcome
-runRead c s t st = cond (eqb s 0) (silent st) (send s (t + c .hop) (c .parent) (Frame s) (send s (t + period c st) s Read (silent st)))
+runRead c s t st = cond (eqb s 0) (silent st) (send s (t + c .hop) (c .parent) (Frame s 0) (send s (t + period c st) s Read (silent st)))
 
 -- the state with a new draw; with one frame more lost; with one frame more heard
 unfoldable pub drawnState : State → State
@@ -89,16 +89,21 @@ lose st = record { draw = st .draw; level = st .level; heard = st .heard; lost =
 unfoldable pub hear : State → State
 hear st = record { draw = st .draw; level = st .level; heard = suc (st .heard); lost = st .lost; sent = st .sent }
 
--- ".. and a station other than 0 passes the frame to its parent at t + hop delay, value kept."
-unfoldable pub pass : Config → ℕ → ℕ → ℕ → Outcome → Outcome
-pass c s t origin o = cond (eqb s 0) o (send s (t + c .hop) (c .parent) (Frame origin) o)
+-- ".. and the same frame goes to the station itself at t + hop delay", with one repeat more; "a loss at 3 raises lost and sends nothing" (document 02,
+-- change 2)
+unfoldable pub repeat : Config → ℕ → ℕ → ℕ → ℕ → Outcome → Outcome
+repeat c s t origin repeats o = cond (ltb repeats 3) (send s (t + c .hop) s (Frame origin (suc repeats)) o) o
 
--- "Frame: draw. If the new draw is at most the noise limit, lost rises by 1 and the same frame goes to the station itself at t + hop delay.
--- Otherwise heard rises by 1, and .."
-unfoldable pub runFrame : Config → ℕ → ℕ → ℕ → State → Outcome
-runFrame c s t origin st =
+-- ".. and a station other than 0 passes the frame to its parent at t + hop delay"; "a frame passed to the parent starts again at 0 repeats"
+-- (document 02, change 2)
+unfoldable pub pass : Config → ℕ → ℕ → ℕ → Outcome → Outcome
+pass c s t origin o = cond (eqb s 0) o (send s (t + c .hop) (c .parent) (Frame origin 0) o)
+
+-- "Frame: draw. If the new draw is at most the noise limit, lost rises by 1 and .. Otherwise heard rises by 1, and .."
+unfoldable pub runFrame : Config → ℕ → ℕ → ℕ → ℕ → State → Outcome
+runFrame c s t origin repeats st =
     cond (leb (nextDraw (st .draw)) (c .noise))
-    (send s (t + c .hop) s (Frame origin) (silent (lose (drawnState st))))
+    (repeat c s t origin repeats (silent (lose (drawnState st))))
     (pass c s t origin (silent (hear (drawnState st))))
 
 -- "Level: level becomes the value."
@@ -107,7 +112,7 @@ runLevel mm st = silent (record { draw = st .draw; level = mm; heard = st .heard
 
 unfoldable pub runMatter : Config → ℕ → ℕ → Matter → State → Outcome
 runMatter c s t Read st = runRead c s t st
-runMatter c s t (Frame origin) st = runFrame c s t origin st
+runMatter c s t (Frame origin repeats) st = runFrame c s t origin repeats st
 runMatter c s t (Level mm) st = runLevel mm st
 
 -- running the event x at its target, whose numbers are c and whose state is st

@@ -3,10 +3,10 @@
 use mathlib.Core.Path.{_≡_, refl, sym, ap, _∙_}
 use mathlib.Core.Bool.{Bool, true, false, cond}
 use mathlib.Core.List.{List, _++_, append-nil}
-use Prim.Native.Nat.{ℕ, _+_, _≤_, _<_}
+use Prim.Native.Nat.{ℕ, suc, _+_, _≤_, _<_}
 use native.Mathlib.Omega.{arith}
 use borrow.Author.Tests.{le-ltb, ltb-false, le-leb, lt-leb}
-use lib.Dec.{leb, eqb}
+use lib.Dec.{ltb, leb, eqb}
 use Rattle.refusal.specs.Tests.{horizon, largest, passes}
 use Rattle.line.specs.declared.Config.{Config}
 use Rattle.line.specs.declared.Event.{Event}
@@ -16,7 +16,7 @@ use Rattle.line.specs.declared.Sending.the-variants.{Nothing}
 use Rattle.line.specs.declared.Effect.{Effect}
 use Rattle.line.specs.declared.Ran.{Ran}
 use Rattle.line.specs.declared.Ran.the-variants.{Done}
-use Rattle.line.specs.Station.{Outcome, silent, send, pass}
+use Rattle.line.specs.Station.{Outcome, silent, send, repeat, pass}
 use Rattle.line.specs.Answer.{countsPass, Counted, within, refusedBy, over, counted, sendsOf, said}
 use Rattle.line.proofs.Sends.{made}
 
@@ -98,11 +98,15 @@ module _ (s u to : ℕ) (m : Matter) where
   pub chain : (r : Ran) (o : Outcome) → One r o → (e : Effect) → r ≡ Done e → counted (send s u to m o) ≡ ahead (sendsOf (e .first)) (counted (send s u to m (silent (e .state))))
   chain r o p e h = rw (whole o _ (single r o p e h)) (onto _)
 
--- the same where a frame may be passed on
+-- the same where a frame may be repeated or passed on
+either-over : (b : Bool) (o₁ o₂ : Outcome) → over ≡ counted o₁ → over ≡ counted o₂ → over ≡ counted (cond b o₁ o₂)
+either-over true o₁ o₂ e f = e
+either-over false o₁ o₂ e f = f
+
+pub repeat-stays : (c : Config) (s t origin repeats : ℕ) (o : Outcome) → over ≡ counted o → over ≡ counted (repeat c s t origin repeats o)
+unfolding repeat
+repeat-stays c s t origin repeats o e = either-over (ltb repeats 3) _ o (stays s (t + c .hop) s (Frame origin (suc repeats)) o e) e
+
 pub pass-stays : (c : Config) (s t origin : ℕ) (o : Outcome) → over ≡ counted o → over ≡ counted (pass c s t origin o)
 unfolding pass
-pass-stays c s t origin o e = go (eqb s 0)
-  where
-    go : (v : Bool) → over ≡ counted (cond v o (send s (t + c .hop) (c .parent) (Frame origin) o))
-    go true = e
-    go false = stays s (t + c .hop) (c .parent) (Frame origin) o e
+pass-stays c s t origin o e = either-over (eqb s 0) o _ e (stays s (t + c .hop) (c .parent) (Frame origin 0) o e)

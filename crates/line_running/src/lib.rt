@@ -3,7 +3,7 @@
 ghost use mathlib.Core.Path.{_≡_};
 ghost use Prim.Native.Nat.{_+_};
 ghost use Rattle.generator.specs.Draw.{nextDraw};
-ghost use Rattle.line.specs.Station.{silent as silentOf, send as sendOf, period as periodOf, drawnState, lose, hear, runRead, pass, runFrame, runAt};
+ghost use Rattle.line.specs.Station.{silent as silentOf, send as sendOf, period as periodOf, drawnState, lose, hear, runRead, repeat, pass, runFrame, runAt};
 ghost use Rattle.line.specs.Answer.{counted, said};
 use line::Config;
 use line::Effect;
@@ -87,7 +87,7 @@ fn run_read(c: Config, s: State, station: u16, time: u64) -> Ran
         time,
         c.hop,
         c.parent,
-        Matter::Frame(station as u32),
+        Matter::Frame(station, 0),
     ) else {
         return Ran::Over;
     };
@@ -101,33 +101,52 @@ fn run_read(c: Config, s: State, station: u16, time: u64) -> Ran
     })
 }
 
-// A frame that was lost goes to the station itself again.
-fn run_lost(c: Config, s: State, draw: u32, station: u16, time: u64, origin: u32) -> Ran
+// A frame that was lost goes to the station itself again with one repeat more, and is given up after three.
+fn run_lost(
+    c: Config,
+    s: State,
+    draw: u32,
+    station: u16,
+    time: u64,
+    origin: u16,
+    repeats: u8,
+) -> Ran
     requires { ⌜ draw ≡ nextDraw (s .draw) ⌝ }
-    ensures { λ r. ⌜ said r ≡ counted (sendOf station (time + c .hop) station (Matter.Frame origin) (silentOf (lose (drawnState s)))) ⌝ }
+    ensures { λ r. ⌜ said r ≡ counted (repeat c station time origin repeats (silentOf (lose (drawnState s)))) ⌝ }
 {
     if s.lost == 4294967295 {
         return Ran::Over;
     }
-    let state = State {
+    let lost = State {
         draw,
         level: s.level,
         heard: s.heard,
         lost: s.lost + 1,
         sent: s.sent,
     };
-    send(state, station, time, c.hop, station, Matter::Frame(origin))
+    if repeats < 3 {
+        send(
+            lost,
+            station,
+            time,
+            c.hop,
+            station,
+            Matter::Frame(origin, repeats + 1),
+        )
+    } else {
+        silent(lost)
+    }
 }
 
-// A frame that was heard goes to the parent, but at station 0.
-fn run_heard(c: Config, s: State, draw: u32, station: u16, time: u64, origin: u32) -> Ran
+// A frame that was heard goes to the parent, but at station 0, with no repeats made.
+fn run_heard(c: Config, s: State, draw: u32, station: u16, time: u64, origin: u16) -> Ran
     requires { ⌜ draw ≡ nextDraw (s .draw) ⌝ }
     ensures { λ r. ⌜ said r ≡ counted (pass c station time origin (silentOf (hear (drawnState s)))) ⌝ }
 {
     if s.heard == 4294967295 {
         return Ran::Over;
     }
-    let state = State {
+    let heard = State {
         draw,
         level: s.level,
         heard: s.heard + 1,
@@ -135,19 +154,26 @@ fn run_heard(c: Config, s: State, draw: u32, station: u16, time: u64, origin: u3
         sent: s.sent,
     };
     if station != 0 {
-        send(state, station, time, c.hop, c.parent, Matter::Frame(origin))
+        send(
+            heard,
+            station,
+            time,
+            c.hop,
+            c.parent,
+            Matter::Frame(origin, 0),
+        )
     } else {
-        silent(state)
+        silent(heard)
     }
 }
 
 // A frame at a station.
-fn run_frame(c: Config, s: State, station: u16, time: u64, origin: u32) -> Ran
-    ensures { λ r. ⌜ said r ≡ counted (runFrame c station time origin s) ⌝ }
+fn run_frame(c: Config, s: State, station: u16, time: u64, origin: u16, repeats: u8) -> Ran
+    ensures { λ r. ⌜ said r ≡ counted (runFrame c station time origin repeats s) ⌝ }
 {
     let draw = generator::drawn(s.draw);
     if draw <= c.noise {
-        run_lost(c, s, draw, station, time, origin)
+        run_lost(c, s, draw, station, time, origin, repeats)
     } else {
         run_heard(c, s, draw, station, time, origin)
     }
@@ -160,7 +186,7 @@ pub fn run_event(c: Config, s: State, e: Event) -> Ran
     let m = e.matter;
     match m {
         Matter::Read => run_read(c, s, e.target, e.time),
-        Matter::Frame(origin) => run_frame(c, s, e.target, e.time, origin),
+        Matter::Frame(origin, repeats) => run_frame(c, s, e.target, e.time, origin, repeats),
         Matter::Level(mm) => silent(State {
             draw: s.draw,
             level: mm,

@@ -4,14 +4,14 @@ use mathlib.Core.Bool.{Bool, true, false, cond}
 use mathlib.Core.List.{[]}
 use Prim.Native.Nat.{ℕ, suc, _+_, _≤_}
 use native.Mathlib.Omega.{arith}
-use lib.Dec.{leb, eqb, leb→le}
+use lib.Dec.{ltb, leb, eqb, leb→le}
 use Rattle.refusal.specs.Tests.{horizon}
 use Rattle.generator.specs.Draw.{nextDraw}
 use Rattle.generator.proofs.Edges.{after-1, after-16807, after-2147483646}
 use Rattle.line.specs.declared.Config.{Config}
 use Rattle.line.specs.declared.Matter.{Matter}
 use Rattle.line.specs.declared.State.{State}
-use Rattle.line.specs.Station.{Outcome, silent, send, pass, lose, hear, drawnState, period, runRead, runFrame}
+use Rattle.line.specs.Station.{Outcome, silent, send, repeat, pass, lose, hear, drawnState, period, runRead, runFrame}
 use Rattle.calendar.specs.Ring.{leafFor}
 use Rattle.plan_format.proofs.Edges as plan
 use Rattle.paper_edges.specs.MarkedEdges.{Marked}
@@ -32,7 +32,11 @@ send-counts s t to m o = either (leb t horizon) _ o (o .after) (refl, refl) (ref
 
 pass-counts : (c : Config) (s t origin : ℕ) (o : Outcome) → Counts (pass c s t origin o) (o .after)
 unfolding pass
-pass-counts c s t origin o = either (eqb s 0) o _ (o .after) (refl, refl) (send-counts s (t + c .hop) (c .parent) (Matter.Frame origin) o)
+pass-counts c s t origin o = either (eqb s 0) o _ (o .after) (refl, refl) (send-counts s (t + c .hop) (c .parent) (Matter.Frame origin 0) o)
+
+repeat-counts : (c : Config) (s t origin repeats : ℕ) (o : Outcome) → Counts (repeat c s t origin repeats o) (o .after)
+unfolding repeat
+repeat-counts c s t origin repeats o = either (ltb repeats 3) _ o (o .after) (send-counts s (t + c .hop) s (Matter.Frame origin (suc repeats)) o) (refl, refl)
 
 heard-test : (c : Config) (st : State) → c .noise ≡ 16806 → st .draw ≡ 1 → leb (nextDraw (st .draw)) (c .noise) ≡ false
 heard-test c st n d = rw (n, d, after-1)
@@ -40,15 +44,15 @@ heard-test c st n d = rw (n, d, after-1)
 lost-test : (c : Config) (st : State) → c .noise ≡ 16807 → st .draw ≡ 1 → leb (nextDraw (st .draw)) (c .noise) ≡ true
 lost-test c st n d = rw (n, d, after-1)
 
-heard : (c : Config) (st : State) → c .noise ≡ 16806 → st .draw ≡ 1 → (s t origin : ℕ)
-    → (runFrame c s t origin st .after .heard ≡ suc (st .heard)) × (runFrame c s t origin st .after .lost ≡ st .lost)
+heard : (c : Config) (st : State) → c .noise ≡ 16806 → st .draw ≡ 1 → (s t origin repeats : ℕ)
+    → (runFrame c s t origin repeats st .after .heard ≡ suc (st .heard)) × (runFrame c s t origin repeats st .after .lost ≡ st .lost)
 unfolding runFrame silent hear drawnState
-heard c st n d s t origin = rw (heard-test c st n d) (pass-counts c s t origin (silent (hear (drawnState st))))
+heard c st n d s t origin repeats = rw (heard-test c st n d) (pass-counts c s t origin (silent (hear (drawnState st))))
 
-lost : (c : Config) (st : State) → c .noise ≡ 16807 → st .draw ≡ 1 → (s t origin : ℕ)
-    → (runFrame c s t origin st .after .heard ≡ st .heard) × (runFrame c s t origin st .after .lost ≡ suc (st .lost))
+lost : (c : Config) (st : State) → c .noise ≡ 16807 → st .draw ≡ 1 → (s t origin repeats : ℕ)
+    → (runFrame c s t origin repeats st .after .heard ≡ st .heard) × (runFrame c s t origin repeats st .after .lost ≡ suc (st .lost))
 unfolding runFrame silent lose drawnState
-lost c st n d s t origin = rw (lost-test c st n d) (send-counts s (t + c .hop) s (Matter.Frame origin) (silent (lose (drawnState st))))
+lost c st n d s t origin repeats = rw (lost-test c st n d) (repeat-counts c s t origin repeats (silent (lose (drawnState st))))
 
 -- ---- periods
 
@@ -86,11 +90,11 @@ unfolding runRead silent
 last-reading c st a b h s = go (eqb s 0)
   where
     go : (v : Bool)
-        → cond v (silent st) (send s (horizon + c .hop) (c .parent) (Matter.Frame s) (send s (horizon + period c st) s Matter.Read (silent st))) .sends ≡ []
+        → cond v (silent st) (send s (horizon + c .hop) (c .parent) (Matter.Frame s 0) (send s (horizon + period c st) s Matter.Read (silent st))) .sends ≡ []
     go true = refl
     go false =
         rw (
-          late-send s (c .hop) (c .parent) (Matter.Frame s) (send s (horizon + period c st) s Matter.Read (silent st)) h,
+          late-send s (c .hop) (c .parent) (Matter.Frame s 0) (send s (horizon + period c st) s Matter.Read (silent st)) h,
           late-send s (period c st) s Matter.Read (silent st) (period-some c st a b),
         )
 

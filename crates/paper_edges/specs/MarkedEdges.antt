@@ -23,11 +23,11 @@ pub record Marked : Type 0 where
   pub draw-1 : nextDraw 1 ≡ 16807
   pub draw-16807 : nextDraw 16807 ≡ 282475249
   pub draw-2147483646 : nextDraw 2147483646 ≡ 2147466840
-  -- "Draw 1, noise limit 16806: heard; 16807: lost.": at every station and time, of every origin
-  pub noise-16806 : (c : Config) (st : State) → c .noise ≡ 16806 → st .draw ≡ 1 → (s t origin : ℕ)
-      → (runFrame c s t origin st .after .heard ≡ suc (st .heard)) × (runFrame c s t origin st .after .lost ≡ st .lost)
-  pub noise-16807 : (c : Config) (st : State) → c .noise ≡ 16807 → st .draw ≡ 1 → (s t origin : ℕ)
-      → (runFrame c s t origin st .after .heard ≡ st .heard) × (runFrame c s t origin st .after .lost ≡ suc (st .lost))
+  -- "Draw 1, noise limit 16806: heard; 16807: lost.": at every station and time, of every origin, whatever repeats were made
+  pub noise-16806 : (c : Config) (st : State) → c .noise ≡ 16806 → st .draw ≡ 1 → (s t origin repeats : ℕ)
+      → (runFrame c s t origin repeats st .after .heard ≡ suc (st .heard)) × (runFrame c s t origin repeats st .after .lost ≡ st .lost)
+  pub noise-16807 : (c : Config) (st : State) → c .noise ≡ 16807 → st .draw ≡ 1 → (s t origin repeats : ℕ)
+      → (runFrame c s t origin repeats st .after .heard ≡ st .heard) × (runFrame c s t origin repeats st .after .lost ≡ suc (st .lost))
   -- "Threshold 5000: level 4999 calm, 5000 spring."
   pub level-4999 : (c : Config) (st : State) → c .threshold ≡ 5000 → st .level ≡ 4999 → period c st ≡ c .calm
   pub level-5000 : (c : Config) (st : State) → c .threshold ≡ 5000 → st .level ≡ 5000 → period c st ≡ c .spring

@@ -7,8 +7,8 @@ use Rattle.generator.specs.Draw.{nextDraw}
 use Rattle.line.specs.declared.Config.{Config}
 use Rattle.line.specs.declared.Matter.the-variants.{Read, Frame, Level}
 use Rattle.line.specs.Event.{posted, decide, lex, before}
-use Rattle.line.specs.Matter.{matterOf}
-use Rattle.line.specs.Station.{parentOut, numberOut, update, initial, send, silent, period, runRead, drawnState, lose, hear, pass, runFrame, runLevel, runMatter, runAt, runEvent}
+use Rattle.line.specs.Matter.{frameOf, matterOf}
+use Rattle.line.specs.Station.{parentOut, numberOut, update, initial, send, silent, period, runRead, drawnState, lose, hear, repeat, pass, runFrame, runLevel, runMatter, runAt, runEvent}
 use Rattle.rules.specs.Held.{same, delete, place, leastUnrun, mark, isRun, undone, heldPost, noneUnrun, unrunBefore, logged, kept, recordOf}
 use Rattle.rules.specs.Engine.{opened, Call, Post, RunLowest, Commit, Answer, Posted, Ran, Committed}
 use Rattle.rules.specs.Checks.{checks}
@@ -32,15 +32,15 @@ calls = Post 1 0 1 0 ∷ RunLowest ∷ RunLowest ∷ RunLowest ∷ Post 1 500 3 
 pub answers : List Answer
 answers =
     Posted 0 0 ∷ Ran 1 0 ∷ Ran 0 0 ∷ Ran 1 0 ∷ Posted 1 1 ∷ Ran 1 0 ∷ Ran 1 0
-    ∷ Committed 4 (entries (at 0 1 posted 0 Read ∷ at 30 0 1 1 (Frame 1) ∷ at 500 1 posted 1 (Level 5000) ∷ at 1000 1 1 0 Read ∷ []) ++ zeros 1440) ∷ []
+    ∷ Committed 4 (entries (at 0 1 posted 0 Read ∷ at 30 0 1 1 (Frame 1 0) ∷ at 500 1 posted 1 (Level 5000) ∷ at 1000 1 1 0 Read ∷ []) ++ zeros 1440) ∷ []
 
 pub bench : Gives plan 64 calls answers
 unfolding plan station calls answers allIn parentOut numberOut nth pairs zeros
     settle postStep retractStep runStep stationStep lowestOf commitStep answerTo answersTo
     runs beyond orThis latest removeEach undoFound undoWithin undoFrom removing adding addAll runLeast
-    postOf with entry entries bytesOf checks orNext judged opened matterOf
+    postOf with entry entries bytesOf checks orNext judged opened frameOf matterOf
     same delete place leastUnrun mark isRun undone heldPost noneUnrun unrunBefore logged kept recordOf
-    decide lex before update initial send silent period runRead drawnState lose hear pass runFrame runLevel runMatter runAt runEvent nextDraw
+    decide lex before update initial send silent period runRead drawnState lose hear repeat pass runFrame runLevel runMatter runAt runEvent nextDraw
 bench = computed plan 64 calls answers (in-range plan tt tt tt) refl
 
 -- the 24 bytes of the third event

@@ -1,4 +1,5 @@
 -- Each way through the code settles the two tests on the kind.
+use borrow.Author.Needs.{needs}
 use borrow.Author.Tests.{ne-eqb}
 use Rattle.entry.specs.Entry.{matterOr}
 use Rattle.entry.proofs.matter.Statement.{statement}
@@ -17,4 +18,4 @@ unfolding matterOr
 returns-3 c = let r = c .match .rest in rw (ne-eqb _ 2 (r .0 .1), ne-eqb _ 3 (r .1))
 
 pub matter-spec : {M : Type 1} → statement M
-matter-spec = tie.close (tie.spec returns returns-2 returns-3)
+matter-spec = tie.close (tie.spec (λ c. search needs) (λ c. search needs) returns returns-2 returns-3)
