@@ -5,6 +5,7 @@ pub mod Invariant
 pub mod Step
 pub mod Room
 pub mod Demand3
+pub mod LogSuits
 pub mod Compute
 pub mod Answered
 pub mod Tests

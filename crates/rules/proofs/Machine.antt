@@ -4,3 +4,4 @@ pub mod Sorted
 pub mod Feed
 pub mod Halts
 pub mod Plain
+pub mod Log
