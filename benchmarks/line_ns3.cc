@@ -59,10 +59,10 @@ static void Run(uint32_t station, uint32_t source, uint32_t number, uint32_t kin
         s.draw = 16807 * s.draw % 2147483647;
         if (s.draw <= c.noise) {
             s.lost++;
-            Send(c.hop, station, station, 2, value);
+            if (value / 256 < 3) Send(c.hop, station, station, 2, value + 256);
         } else {
             s.heard++;
-            if (station > 0) Send(c.hop, c.parent, station, 2, value);
+            if (station > 0) Send(c.hop, c.parent, station, 2, value % 256);
         }
     } else if (kind == 3) {
         s.level = value;

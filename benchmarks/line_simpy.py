@@ -49,11 +49,12 @@ def run(station, source, number, kind, value):
         draw[station] = 16807 * draw[station] % 2147483647
         if draw[station] <= NOISE:
             lost[station] += 1
-            send(HOP[station], station, station, 2, value)
+            if value // 256 < 3:
+                send(HOP[station], station, station, 2, value + 256)
         else:
             heard[station] += 1
             if station > 0:
-                send(HOP[station], PARENT[station], station, 2, value)
+                send(HOP[station], PARENT[station], station, 2, value % 256)
     elif kind == 3:
         level[station] = value
     log.append(struct.pack("<QIIHHI", int(now()), number, value, station, source, kind))

@@ -1,4 +1,4 @@
-// The engine and the plain machine, straight from document 01 and as simple as can be: a sorted map of held events, a heap of waiting ones.
+// The engine and the plain machine, straight from documents 01 and 02 and as simple as can be: a sorted map of held events, a heap of waiting ones.
 #![allow(dead_code)]
 use std::cmp::Reverse;
 use std::collections::{BTreeMap, BTreeSet, BinaryHeap};
@@ -177,11 +177,13 @@ pub fn run_event(c: &Config, state: State, key: Key, matter: Matter) -> (State, 
             after.draw = 16_807 * after.draw % 2_147_483_647;
             if after.draw <= c.noise.into() {
                 after.lost += 1;
-                send(&mut after, time + c.hop as u64, station, matter);
+                if matter.1 / 256 < 3 {
+                    send(&mut after, time + c.hop as u64, station, (2, matter.1 + 256));
+                }
             } else {
                 after.heard += 1;
                 if station > 0 {
-                    send(&mut after, time + c.hop as u64, c.parent.into(), matter);
+                    send(&mut after, time + c.hop as u64, c.parent.into(), (2, matter.1 % 256));
                 }
             }
         }
@@ -222,6 +224,16 @@ impl<'p> Machine<'p> {
             }
             log(key, matter);
         }
+    }
+}
+
+/// What 10 does not refuse on a line of n stations.
+pub fn suits(n: u64, (kind, value): Matter) -> bool {
+    match kind {
+        1 => value == 0,
+        2 => value % 256 < n && value / 256 <= 3,
+        3 => value <= LARGEST,
+        _ => false,
     }
 }
 
@@ -300,16 +312,10 @@ impl Engine {
     }
 
     pub fn post(&mut self, station: u64, time: u64, kind: u64, value: u64) -> Result<(u64, u64), u64> {
-        let suits = match kind {
-            1 => value == 0,
-            2 => value < self.n(),
-            3 => value <= LARGEST,
-            _ => false,
-        };
         if station >= self.n() {
             return Err(9);
         }
-        if !suits {
+        if !suits(self.n(), (kind, value)) {
             return Err(10);
         }
         if time > H {

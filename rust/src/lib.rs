@@ -85,8 +85,8 @@ pub(crate) fn refusal(code: u64, at: u64) -> Refusal {
 #[derive(Clone, Copy, PartialEq, Eq, Debug)]
 pub enum Matter {
     Reading,
-    /// A frame, with the station that it comes from.
-    Frame(u32),
+    /// A frame, with the station that it comes from and the repeats made, at most 3.
+    Frame { origin: u8, repeats: u8 },
     /// The level in mm.
     Level(u32),
 }
@@ -95,7 +95,7 @@ impl Matter {
     fn numbers(self) -> (u64, u64) {
         match self {
             Matter::Reading => (1, 0),
-            Matter::Frame(origin) => (2, origin.into()),
+            Matter::Frame { origin, repeats } => (2, u64::from(origin) + 256 * u64::from(repeats)),
             Matter::Level(mm) => (3, mm.into()),
         }
     }
@@ -133,10 +133,21 @@ pub struct Entry {
     pub source: u16,
     pub number: u32,
     pub kind: u32,
+    /// Of a frame its origin and 256 times its repeats: `matter` takes them apart.
     pub value: u32,
 }
 
 impl Entry {
+    /// What the event carries; nothing where the kind and the value are none that a commit writes.
+    pub fn matter(&self) -> Option<Matter> {
+        match (self.kind, self.value) {
+            (1, 0) => Some(Matter::Reading),
+            (2, value @ 0..=1023) => Some(Matter::Frame { origin: (value % 256) as u8, repeats: (value / 256) as u8 }),
+            (3, mm) => Some(Matter::Level(mm)),
+            _ => None,
+        }
+    }
+
     /// The event of the 24 bytes that a commit writes.
     pub fn of(bytes: &[u8; 24]) -> Entry {
         let word = |at: usize| u32::from_le_bytes(bytes[at..at + 4].try_into().unwrap());

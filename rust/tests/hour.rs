@@ -6,6 +6,14 @@ mod line;
 #[path = "../reference/mod.rs"]
 mod reference;
 
+fn numbers(matter: Matter) -> reference::Matter {
+    match matter {
+        Matter::Reading => (1, 0),
+        Matter::Frame { origin, repeats } => (2, u64::from(origin) + 256 * u64::from(repeats)),
+        Matter::Level(mm) => (3, mm.into()),
+    }
+}
+
 #[test]
 fn an_hour_is_the_plain_machines() {
     let mut bytes = [0; Plan::bytes_for(3)];
@@ -15,17 +23,13 @@ fn an_hour_is_the_plain_machines() {
     let configs: Vec<_> = reference::read_plan(plan.bytes()).unwrap().into_iter().map(|(config, _)| config).collect();
     let mut machine = reference::Machine::new(&configs);
     for (number, (station, time, matter)) in (0..).zip(line::POSTS) {
-        let matter = match matter {
-            Matter::Reading => (1, 0),
-            Matter::Frame(origin) => (2, origin.into()),
-            Matter::Level(mm) => (3, mm.into()),
-        };
-        machine.post((time, station, 65_535, number), matter);
+        machine.post((time, station, 65_535, number), numbers(matter));
     }
     let mut expected = vec![];
     machine.run(3_600_000, |key, matter| expected.push(Entry::of(&reference::entry(key, matter))));
 
     assert_eq!(entries, expected);
+    assert!(entries.iter().all(|entry| entry.matter().map(numbers) == Some((entry.kind.into(), entry.value.into()))));
     let as_state = |s: &reference::State| State {
         draw: s.draw as u32,
         level: s.level as u32,

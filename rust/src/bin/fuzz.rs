@@ -4,7 +4,7 @@
 //!
 //! A case of plans is a drawn list of stations, written, and the plan damaged, read. A case of the engine is a drawn line and a drawn list of calls. Answers, logs and records are compared, and at the end the joined logs and the records with the plain
 //! machine. A difference prints the case's seed. `fuzz stack=64` runs the deepest rollback in a stack of so many KiB.
-use jambfennel::{Engine, Plan, Refusal, Station};
+use jambfennel::{Engine, Entry, Plan, Refusal, Station};
 
 #[path = "../../reference/mod.rs"]
 mod reference;
@@ -59,7 +59,8 @@ fn compare(seed: u64) -> u64 {
                 let kind = dice.pick(&[1, 2, 2, 3, 3, 0, 4]);
                 let value = match kind {
                     1 => u64::from(dice.one_in(9)),
-                    2 => dice.below(n + 1),
+                    2 if dice.one_in(20) => dice.pick(&[1 << 16, (1 << 32) + 1, u64::MAX - 255, u64::MAX]),
+                    2 => dice.below(n + 1) + 256 * dice.pick(&[0, 0, 0, 1, 2, 3, 4, 5]),
                     _ => dice.below(12),
                 };
                 let time = if dice.one_in(12) { dice.pick(&[0, reference::H, reference::H + 1, u64::MAX]) } else { time };
@@ -125,6 +126,8 @@ fn compare(seed: u64) -> u64 {
     let mut log = vec![];
     machine.run(model.now, |k, m| log.extend(reference::entry(k, m)));
     assert!(log == logs, "case {seed}: the joined logs are not the machine's");
+    let suits = |entry: Entry| entry.matter().is_some() && reference::suits(n, (entry.kind.into(), entry.value.into()));
+    assert!(logs.chunks_exact(24).all(|bytes| suits(Entry::of(bytes.try_into().unwrap()))), "case {seed}: a matter that 10 refuses is in the log");
     for s in 0..n {
         let a = engine.record(s).map(|s| [s.draw, s.level, s.heard, s.lost, s.sent].map(u64::from)).unwrap();
         let want = machine.states[s as usize];
@@ -145,7 +148,7 @@ fn damage(seed: u64) -> u64 {
     {
         let mut engine = Engine::open(&plan, 64, capacity as u64, &mut all[32..size + 32]).unwrap();
         for _ in 0..40 {
-            let _ = engine.post_numbers(dice.below(line.len() as u64), dice.below(200), 1 + dice.below(3), 0);
+            let _ = engine.post_numbers(dice.below(line.len() as u64), dice.below(200), 1 + dice.below(3), 256 * dice.below(4));
             let _ = engine.run_lowest();
             let _ = engine.run_station(dice.below(line.len() as u64));
         }
@@ -179,7 +182,7 @@ fn damage(seed: u64) -> u64 {
         let mut engine = Engine::resume(&mut all[32..cut + 32]);
         let number = dice.pick(&[0, 1, 2, 5, 100, 255, 256, 65_535, reference::H, u64::MAX]);
         let refused = match dice.below(6) {
-            0 => engine.post_numbers(number, dice.below(300), 1 + dice.below(3), 0).is_err(),
+            0 => engine.post_numbers(number, dice.below(300), 1 + dice.below(3), 256 * dice.below(5)).is_err(),
             1 => engine.retract(number).is_err(),
             2 => engine.run_station(number).is_err(),
             3 => engine.run_lowest().is_err(),
