@@ -1,24 +1,18 @@
 -- An accepted post: its event is added, and the next number is stored.
 use mathlib.Core.Path.{_≡_, refl, sym, ap, _∙_, subst}
-use mathlib.Core.Bool.{Bool, true, false, cond}
 use mathlib.Core.List.{List, _∷_}
-use Prim.Native.Nat.{ℕ, suc, _+_, _^_, _≤_, _<_}
+use Prim.Native.Nat.{ℕ, suc, _+_, _≤_, _<_}
 use native.Mathlib.Omega.{arith}
 use native.Mathlib.Numerals.{add-one}
-use borrow.Author.Tests.{ltb-true, leb-true}
-use lib.Dec.{eqb, ltb, leb}
 use lib.ListN.{length}
 use Rattle.words.specs.Le.{storeAt}
 use Rattle.refusal.specs.declared.Refusal.{Refusal}
 use Rattle.refusal.specs.Numbers.{numberOf}
 use Rattle.refusal.specs.Tests.{accepted, judged}
-use Rattle.refusal.specs.declared.Refusal.the-variants as N
 use Rattle.line.specs.declared.Event.{Event}
 use Rattle.line.specs.declared.Matter.{Matter}
-use Rattle.line.specs.declared.Matter.the-variants.{Read, Frame, Level}
-use Rattle.line.specs.declared.Meant.the-variants.{Means, Refused as Unsuited}
-use Rattle.line.specs.Event.{posted}
-use Rattle.line.specs.Matter.{suited, matterOf, valueOf}
+use Rattle.line.specs.declared.Meant.the-variants.{Means}
+use Rattle.line.specs.Matter.{matterOf}
 use Rattle.line.specs.Station.{Plan}
 use Rattle.rules.specs.Held.{unrun, Queue, undone}
 use Rattle.rules.specs.Undo.{Does, Add}

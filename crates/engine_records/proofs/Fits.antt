@@ -1,22 +1,13 @@
--- A record that is read from bytes fits its widths.
-use mathlib.Core.Bool.{Bool, true, false, cond}
+-- A state that is read from bytes fits its widths.
 use mathlib.Core.List.{List}
 use Prim.Native.Nat.{ℕ, _+_, _^_, _<_}
-use native.Mathlib.Omega.{arith}
-use lib.Dec.{eqb}
 use lib.ListN.{getD}
 use Rattle.words.specs.Le.{loadAt}
 use Rattle.words.proofs.Laws.{load-lt}
-use Rattle.line.specs.declared.Matter.the-variants.{Read, Frame, Level}
-use Rattle.line.specs.Matter.{valueOf}
-use Rattle.entry.specs.Entry.{matterOr, eventAt}
 use Rattle.engine_records.specs.Records.{stateAt}
-use Rattle.line.specs.Widths.{EventFits, StateFits}
+use Rattle.line.specs.Widths.{StateFits}
 
 module _ (at : ℕ) (xs : List ℕ) (low : (j : ℕ) → getD xs j 0 < 256) where
-  half : (i : ℕ) → loadAt 2 i xs < 2 ^ 16
-  half i = load-lt 2 i xs low
-
   word : (i : ℕ) → loadAt 4 i xs < 2 ^ 32
   word i = load-lt 4 i xs low
 

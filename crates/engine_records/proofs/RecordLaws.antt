@@ -1,25 +1,17 @@
--- What was put of an event, a state or a station's numbers is read back where it stands, and what stands beside it is not touched.
-use mathlib.Core.Path.{_≡_, refl, ap, _∙_}
-use mathlib.Core.Logic.{_≢_, inl, inr}
+-- What was put of a state or a station's numbers is read back where it stands, and what stands beside it is not touched.
+use mathlib.Core.Path.{_≡_, refl, _∙_}
+use mathlib.Core.Logic.{inl, inr}
 use mathlib.Core.List.{List, [], _∷_}
-use Prim.Native.Nat.{ℕ, _+_, _^_, _≤_, _<_}
+use Prim.Native.Nat.{ℕ, _+_, _≤_}
 use native.Mathlib.Nat.{add-zero}
 use native.Mathlib.Omega.{arith}
-use lib.Dec.{ltb}
 use lib.ListN.{length}
 use Rattle.words.specs.Le.{loadAt, storeAt}
 use Rattle.words.proofs.Laws.{Apart, length-store, load-other, load-stored}
-use Rattle.line.specs.declared.Event.{Event}
 use Rattle.line.specs.declared.State.{State}
 use Rattle.line.specs.declared.Config.{Config}
-use Rattle.line.specs.declared.Matter.{Matter}
-use Rattle.line.specs.declared.Matter.the-variants.{Read, Frame, Level}
-use Rattle.line.specs.Matter.{kindOf, valueOf}
-use Rattle.line.specs.Event.{before}
-use Rattle.line.proofs.Order.{lex-apart}
-use Rattle.entry.specs.Entry.{matterOr, eventAt, putEvent}
 use Rattle.engine_records.specs.Records.{stateAt, putState, storedConfig, putConfig}
-use Rattle.line.specs.Widths.{EventFits, StateFits, ConfigFits}
+use Rattle.line.specs.Widths.{StateFits, ConfigFits}
 use Rattle.words.proofs.Run.{Run, puts, size, Fit, Reads, length-puts, puts-beside, puts-back}
 
 -- ---- a record as a run of numbers

@@ -7,7 +7,6 @@ use borrow.Author.Tests.{ltb-true}
 use lib.Dec.{ltb, leb, eqb}
 use Rattle.generator.specs.Draw.{nextDraw}
 use Rattle.line.specs.declared.Config.{Config}
-use Rattle.line.specs.declared.Event.{Event}
 use Rattle.line.specs.declared.Matter.{Matter}
 use Rattle.line.specs.declared.Matter.the-variants.{Read, Frame, Level}
 use Rattle.line.specs.declared.State.{State}

@@ -1,5 +1,5 @@
 -- The matters that number 10 accepts: which they are, that a kind and a value mean no other, and that running an event sends no other.
-use mathlib.Core.Path.{_≡_, refl, ap, _∙_, sym, subst}
+use mathlib.Core.Path.{_≡_, refl, ap, _∙_, sym}
 use mathlib.Core.Bool.{Bool, true, false, cond, _&&_}
 use Prim.Native.Nat.{ℕ, suc, _+_, _*_, _/_, _%_, _≤_, _<_}
 use native.Mathlib.Omega.{arith}
@@ -12,7 +12,6 @@ use Rattle.line.specs.declared.Event.{Event}
 use Rattle.line.specs.declared.Config.{Config}
 use Rattle.line.specs.declared.Matter.{Matter}
 use Rattle.line.specs.declared.Matter.the-variants.{Read, Frame, Level}
-use Rattle.line.specs.declared.Meant.{Meant}
 use Rattle.line.specs.declared.Meant.the-variants.{Means, Refused}
 use Rattle.line.specs.declared.State.{State}
 use Rattle.line.specs.Matter.{suited, frameOf, matterOf, kindOf, valueOf, Suits}

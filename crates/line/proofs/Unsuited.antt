@@ -9,7 +9,7 @@ use Rattle.refusal.specs.Tests.{largest, says, orNext, judged}
 use Rattle.line.specs.declared.Matter.{Matter}
 use Rattle.line.specs.declared.Matter.the-variants.{Read, Frame, Level}
 use Rattle.line.specs.declared.Meant.{Meant}
-use Rattle.line.specs.declared.Meant.the-variants.{Means, Refused}
+use Rattle.line.specs.declared.Meant.the-variants.{Refused}
 use Rattle.line.specs.Matter.{suited, frameOf, matterOf, meantSays, unsuited}
 
 abbrev Numbered : Meant → Type 0

@@ -15,8 +15,8 @@ use Rattle.line.specs.declared.Meant.the-variants.{Means, Refused}
 abbrev pub suited : Bool → Matter → Meant
 suited suits m = cond suits (Means m) (Refused R.Matter)
 
--- "A frame's value becomes its origin plus 256 times the repeats made, 0 to 3." "Number 10 refuses a posted frame whose repeats exceed 3 or whose
--- origin is N or more." (document 02, change 2)
+-- "Number 10 refuses a posted frame whose repeats exceed 3 or whose origin is N or more" (document 02, change 2): of a value, which is its origin, below
+-- 256 as N is at most that, plus 256 times its repeats
 unfoldable pub frameOf : ℕ → ℕ → Meant
 frameOf n value = suited (leb (value / 256) 3 && ltb (value % 256) n) (Frame (value % 256) (value / 256))
 
@@ -42,6 +42,7 @@ kindOf Read = 1
 kindOf (Frame origin repeats) = 2
 kindOf (Level mm) = 3
 
+-- "A frame's value becomes its origin plus 256 times the repeats made, 0 to 3." (document 02, change 2)
 abbrev pub valueOf : Matter → ℕ
 valueOf Read = 0
 valueOf (Frame origin repeats) = origin + 256 * repeats

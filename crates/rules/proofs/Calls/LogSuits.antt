@@ -18,7 +18,7 @@ use Rattle.line.proofs.Suits.{means-suits, sends-suit}
 use Rattle.rules.specs.Machine.{Machine, start}
 use Rattle.rules.specs.Engine.{Engine, opened, Call, Post, Retract, RunStation, RunLowest, Commit, Record}
 use Rattle.rules.specs.Calls.{postOf}
-use Rattle.rules.specs.Demand.{Made, Calls, isRefused, posting, postIn, posts, retracted, logs, without, fed, Comes}
+use Rattle.rules.specs.Demand.{Made, Calls, isRefused, posting, postIn, posts, retracted, logs, fed, Comes}
 use Rattle.rules.proofs.Machine.Log.{log-all}
 use Rattle.rules.proofs.Calls.Posts.{without-all}
 use Rattle.rules.proofs.Calls.Invariant.{fed-inside}

@@ -1,5 +1,4 @@
 -- What every waiting event has and every send keeps, every event of the log has.
-use mathlib.Core.List.{_∷_}
 use Prim.Native.Nat.{ℕ}
 use Rattle.line.specs.declared.Event.{Event}
 use Rattle.line.specs.declared.State.{State}
