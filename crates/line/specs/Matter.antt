@@ -15,8 +15,8 @@ use Rattle.line.specs.declared.Meant.the-variants.{Means, Refused}
 abbrev pub suited : Bool → Matter → Meant
 suited suits m = cond suits (Means m) (Refused R.Matter)
 
--- "Number 10 refuses a posted frame whose repeats exceed 3 or whose origin is N or more" (document 02, change 2): of a value, which is its origin, below
--- 256 as N is at most that, plus 256 times its repeats
+-- "Number 10 refuses a posted frame whose repeats exceed 3 or whose origin is N or more." (document 02, change 2) N is at most 256, so the origin is the
+-- value modulo 256, and the rest of it is 256 times the repeats
 unfoldable pub frameOf : ℕ → ℕ → Meant
 frameOf n value = suited (leb (value / 256) 3 && ltb (value % 256) n) (Frame (value % 256) (value / 256))
 

@@ -89,13 +89,13 @@ lose st = record { draw = st .draw; level = st .level; heard = st .heard; lost =
 unfoldable pub hear : State → State
 hear st = record { draw = st .draw; level = st .level; heard = suc (st .heard); lost = st .lost; sent = st .sent }
 
--- ".. and the same frame goes to the station itself at t + hop delay", with one repeat more; "a loss at 3 raises lost and sends nothing" (document 02,
+-- ".. and the same frame goes to the station itself at t + hop delay", with one repeat more. "A loss at 3 raises lost and sends nothing." (document 02,
 -- change 2)
 unfoldable pub repeat : Config → ℕ → ℕ → ℕ → ℕ → Outcome → Outcome
 repeat c s t origin repeats o = cond (ltb repeats 3) (send s (t + c .hop) s (Frame origin (suc repeats)) o) o
 
--- ".. and a station other than 0 passes the frame to its parent at t + hop delay"; "a frame passed to the parent starts again at 0 repeats"
--- (document 02, change 2)
+-- ".. and a station other than 0 passes the frame to its parent at t + hop delay". "A frame passed to the parent starts again at 0 repeats." (document
+-- 02, change 2)
 unfoldable pub pass : Config → ℕ → ℕ → ℕ → Outcome → Outcome
 pass c s t origin o = cond (eqb s 0) o (send s (t + c .hop) (c .parent) (Frame origin 0) o)
 
