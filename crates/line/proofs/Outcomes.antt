@@ -13,11 +13,11 @@ use Rattle.line.specs.declared.State.{State}
 use Rattle.line.specs.Station.{Outcome, send, silent, period, runRead, drawnState, lose, hear, repeat, pass, runFrame, runLevel, runMatter}
 
 -- the states that running the matter m may leave
-pub data Leaves (st : State) : Matter → State → Type 0 where
-  unchanged : Leaves st Read st
-  lost : {origin repeats : ℕ} → Leaves st (Frame origin repeats) (lose (drawnState st))
-  heard : {origin repeats : ℕ} → Leaves st (Frame origin repeats) (hear (drawnState st))
-  level : {mm : ℕ} → Leaves st (Level mm) (record { draw = st .draw; level = mm; heard = st .heard; lost = st .lost; sent = st .sent })
+pub data MayLeave (st : State) : Matter → State → Type 0 where
+  unchanged : MayLeave st Read st
+  lost : {origin repeats : ℕ} → MayLeave st (Frame origin repeats) (lose (drawnState st))
+  heard : {origin repeats : ℕ} → MayLeave st (Frame origin repeats) (hear (drawnState st))
+  level : {mm : ℕ} → MayLeave st (Level mm) (record { draw = st .draw; level = mm; heard = st .heard; lost = st .lost; sent = st .sent })
 
 -- what station s may send where it runs the matter m at time t: when, to which station, and with which matter
 pub data MaySend (c : Config) (s t : ℕ) (st : State) : Matter → ℕ → ℕ → Matter → Type 0 where
@@ -27,37 +27,38 @@ pub data MaySend (c : Config) (s t : ℕ) (st : State) : Matter → ℕ → ℕ 
   passed-on : {origin repeats : ℕ} → MaySend c s t st (Frame origin repeats) (t + c .hop) (c .parent) (Frame origin 0)
 
 module _ (c : Config) (s t : ℕ) (st : State) (m : Matter) where
-  pub data Shape : Outcome → Type 0 where
-    none : {v : State} → Leaves st m v → Shape (silent v)
-    one : {v : State} {u to : ℕ} {k : Matter} → Leaves st m v → MaySend c s t st m u to k → Shape (send s u to k (silent v))
-    two : {v : State} {u to u′ to′ : ℕ} {k k′ : Matter} → Leaves st m v → MaySend c s t st m u to k → MaySend c s t st m u′ to′ k′
-        → Shape (send s u′ to′ k′ (send s u to k (silent v)))
+  -- the outcomes that running it may have
+  pub data Possible : Outcome → Type 0 where
+    none : {v : State} → MayLeave st m v → Possible (silent v)
+    one : {v : State} {u to : ℕ} {k : Matter} → MayLeave st m v → MaySend c s t st m u to k → Possible (send s u to k (silent v))
+    two : {v : State} {u to u′ to′ : ℕ} {k k′ : Matter} → MayLeave st m v → MaySend c s t st m u to k → MaySend c s t st m u′ to′ k′
+        → Possible (send s u′ to′ k′ (send s u to k (silent v)))
 
-  either : (b : Bool) (o₁ o₂ : Outcome) → Shape o₁ → Shape o₂ → Shape (cond b o₁ o₂)
+  either : (b : Bool) (o₁ o₂ : Outcome) → Possible o₁ → Possible o₂ → Possible (cond b o₁ o₂)
   either true o₁ o₂ p q = p
   either false o₁ o₂ p q = q
 
-pub shape : (c : Config) (s t : ℕ) (st : State) (m : Matter) → Shape c s t st m (runMatter c s t m st)
+pub possible : (c : Config) (s t : ℕ) (st : State) (m : Matter) → Possible c s t st m (runMatter c s t m st)
 unfolding runMatter runRead runFrame runLevel repeat pass
-shape c s t st Read = either c s t st Read (eqb s 0) _ _ (none unchanged) (two unchanged next-reading own-frame)
-shape c s t st (Frame origin repeats) =
+possible c s t st Read = either c s t st Read (eqb s 0) _ _ (none unchanged) (two unchanged next-reading own-frame)
+possible c s t st (Frame origin repeats) =
     either c s t st (Frame origin repeats) (leb (nextDraw (st .draw)) (c .noise)) _ _ (again (ltb repeats 3) refl)
     (either c s t st (Frame origin repeats) (eqb s 0) _ _ (none heard) (one heard passed-on))
   where
     again : (b : Bool) → ltb repeats 3 ≡ b
-        → Shape c s t st (Frame origin repeats) (cond b (send s (t + c .hop) s (Frame origin (suc repeats)) (silent (lose (drawnState st)))) (silent (lose (drawnState st))))
+        → Possible c s t st (Frame origin repeats) (cond b (send s (t + c .hop) s (Frame origin (suc repeats)) (silent (lose (drawnState st)))) (silent (lose (drawnState st))))
     again true e = one lost (repeated (ltb-true repeats 3 e))
     again false e = none lost
-shape c s t st (Level mm) = none level
+possible c s t st (Level mm) = none level
 
 -- what holds of every state that may be left, and is kept by every send that may be made, holds of the outcome
-pub by-shape : (P : Outcome → Type 0) (c : Config) (s t : ℕ) (st : State) (m : Matter)
-    → ((v : State) → Leaves st m v → P (silent v))
+pub by-outcome : (P : Outcome → Type 0) (c : Config) (s t : ℕ) (st : State) (m : Matter)
+    → ((v : State) → MayLeave st m v → P (silent v))
     → ((u to : ℕ) (k : Matter) (o : Outcome) → MaySend c s t st m u to k → P o → P (send s u to k o))
     → P (runMatter c s t m st)
-by-shape P c s t st m f g = go (shape c s t st m)
+by-outcome P c s t st m f g = go (possible c s t st m)
   where
-    go : {o : Outcome} → Shape c s t st m o → P o
+    go : {o : Outcome} → Possible c s t st m o → P o
     go (none {v} l) = f v l
     go (one {v} {u} {to} {k} l a) = g u to k _ a (f v l)
     go (two {v} {u} {to} {u′} {to′} {k} {k′} l a b) = g u′ to′ k′ _ b (g u to k _ a (f v l))

@@ -18,7 +18,7 @@ use Rattle.line.specs.Order.{Differ, All}
 use Rattle.line.proofs.Order.{differ-number}
 use Rattle.line.proofs.Fits.{Fits, fits}
 use Rattle.line.proofs.All.{all-map, all-snoc, Distinct, distinct-snoc}
-use Rattle.line.proofs.Outcomes.{Leaves, unchanged, lost, heard, level, MaySend, next-reading, own-frame, repeated, passed-on, Shape, none, one, two, shape, by-shape}
+use Rattle.line.proofs.Outcomes.{MayLeave, unchanged, lost, heard, level, MaySend, next-reading, own-frame, repeated, passed-on, Possible, none, one, two, possible, by-outcome}
 
 -- the event of one more send of station s on o, and o with that send made
 abbrev pub sending : ℕ → ℕ → ℕ → Matter → Outcome → Event
@@ -80,7 +80,7 @@ module _ (n s t lo : ℕ) where
       go false e = g
 
 -- a state that is left has the number that the next send takes
-sent-kept : {st v : State} {m : Matter} → Leaves st m v → v .sent ≡ st .sent
+sent-kept : {st v : State} {m : Matter} → MayLeave st m v → v .sent ≡ st .sent
 unfolding lose hear drawnState
 sent-kept unchanged = refl
 sent-kept lost = refl
@@ -110,7 +110,7 @@ module _ (s : ℕ) (c : Config) (F : Fits s c) where
 
   matter-good : (n t : ℕ) → s < n → (m : Matter) (st : State) → Good n s t (st .sent) (runMatter c s t m st)
   matter-good n t h m st =
-      by-shape (Good n s t (st .sent)) c s t st m (λ v l. silent-good n s t (st .sent) v (sent-kept l))
+      by-outcome (Good n s t (st .sent)) c s t st m (λ v l. silent-good n s t (st .sent) v (sent-kept l))
       (λ u to k o a g. send-good n s t (st .sent) u to k o (later a) (omega (arith, lower a)) g)
 
 station-fits : (p : Plan) → InRange p → (s : ℕ) → s < p .count → Fits s (p .config s)
@@ -142,7 +142,7 @@ Allowed p st x y = MaySend (p .config (x .target)) (x .target) (x .time) st (x .
 pub sends-allowed : (p : Plan) (st : State) (x : Event) → All (Allowed p st x) (runEvent p st x .sends)
 unfolding runEvent runAt
 sends-allowed p st x =
-    by-shape (λ o. All (Allowed p st x) (o .sends)) (p .config (x .target)) (x .target) (x .time) st (x .matter)
+    by-outcome (λ o. All (Allowed p st x) (o .sends)) (p .config (x .target)) (x .target) (x .time) st (x .matter)
     (λ v l. silent-all (Allowed p st x) v) (λ u to k o a i. send-all (Allowed p st x) (x .target) u to k o a i)
 
 -- to the station itself or a lower one
@@ -164,12 +164,12 @@ send-few s u to m o = go (leb u horizon)
     go true = omega (arith, length-append (o .sends) (sending s u to m o ∷ []))
     go false = omega arith
 
-shape-few : {c : Config} {s t : ℕ} {st : State} {m : Matter} {o : Outcome} → Shape c s t st m o → length (o .sends) ≤ 2
-shape-few (none {v} l) = omega (arith, silent-few v)
-shape-few {s = s} (one {v} {u} {to} {k} l a) = omega (arith, silent-few v, send-few s u to k (silent v))
-shape-few {s = s} (two {v} {u} {to} {u′} {to′} {k} {k′} l a b) =
+possible-few : {c : Config} {s t : ℕ} {st : State} {m : Matter} {o : Outcome} → Possible c s t st m o → length (o .sends) ≤ 2
+possible-few (none {v} l) = omega (arith, silent-few v)
+possible-few {s = s} (one {v} {u} {to} {k} l a) = omega (arith, silent-few v, send-few s u to k (silent v))
+possible-few {s = s} (two {v} {u} {to} {u′} {to′} {k} {k′} l a b) =
     omega (arith, silent-few v, send-few s u to k (silent v), send-few s u′ to′ k′ (send s u to k (silent v)))
 
 pub sends-few : (p : Plan) (st : State) (x : Event) → length (runEvent p st x .sends) ≤ 2
 unfolding runEvent runAt
-sends-few p st x = shape-few (shape (p .config (x .target)) (x .target) (x .time) st (x .matter))
+sends-few p st x = possible-few (possible (p .config (x .target)) (x .target) (x .time) st (x .matter))

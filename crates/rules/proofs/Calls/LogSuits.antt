@@ -25,17 +25,17 @@ use Rattle.rules.proofs.Calls.Invariant.{fed-inside}
 use Rattle.rules.proofs.Calls.Demand3.{after-calls}
 
 module _ (p : Plan) where
-  abbrev Suited : Event → Type 0
-  Suited x = Suits (p .count) (x .matter)
+  abbrev EventSuits : Event → Type 0
+  EventSuits x = Suits (p .count) (x .matter)
 
   -- ---- the posts
 
-  posting-suits : (n s t kind value : ℕ) (m : Meant) → matterOf (p .count) kind value ≡ m → All Suited (posting n s t m)
+  posting-suits : (n s t kind value : ℕ) (m : Meant) → matterOf (p .count) kind value ≡ m → All EventSuits (posting n s t m)
   unfolding postOf
   posting-suits n s t kind value (Means m) e = (means-suits (p .count) kind value m e, tt)
   posting-suits n s t kind value (Unsuited r) e = tt
 
-  post-suits : (n : ℕ) (c : Call) → All Suited (postIn p n c)
+  post-suits : (n : ℕ) (c : Call) → All EventSuits (postIn p n c)
   unfolding postIn
   post-suits n (Post s t kind value) = posting-suits n s t kind value (matterOf (p .count) kind value) refl
   post-suits n (Retract k) = tt
@@ -44,15 +44,15 @@ module _ (p : Plan) where
   post-suits n (Commit c output) = tt
   post-suits n (Record s) = tt
 
-  posts-suit : (n : ℕ) (ms : List Made) → All Suited (posts p n ms)
+  posts-suit : (n : ℕ) (ms : List Made) → All EventSuits (posts p n ms)
   unfolding posts
   posts-suit n [] = tt
-  posts-suit n (m ∷ ms) = all-append Suited (fresh (isRefused (m .said))) _ (go (isRefused (m .said))) (posts-suit (n + length (fresh (isRefused (m .said)))) ms)
+  posts-suit n (m ∷ ms) = all-append EventSuits (fresh (isRefused (m .said))) _ (go (isRefused (m .said))) (posts-suit (n + length (fresh (isRefused (m .said)))) ms)
     where
       fresh : Bool → List Event
       fresh b = cond b [] (postIn p n (m .asked))
 
-      go : (b : Bool) → All Suited (fresh b)
+      go : (b : Bool) → All EventSuits (fresh b)
       go true = tt
       go false = post-suits n (m .asked)
 
@@ -60,17 +60,17 @@ module _ (p : Plan) where
 
   -- at a station, with a matter that suits
   abbrev Proper : Event → Type 0
-  Proper x = (x .target < p .count) × Suited x
+  Proper x = (x .target < p .count) × EventSuits x
 
   sends-proper : InRange p → (st : State) (x : Event) → Proper x → All Proper (runEvent p st x .sends)
   sends-proper S st x h = all-both (λ y w e. (w .inside, e)) (runEvent p st x .sends) (event-good p S st x (h .0) .each) (sends-suit p S st x (h .0) (h .1))
 
   pub log-suits : (S : InRange p) (capacity : ℕ) {ms : List Made} {f : Engine} → Calls p (opened p capacity) ms f → (k : Machine) → Comes p ms k
-      → All Suited (k .log)
+      → All EventSuits (k .log)
   unfolding fed start
   log-suits S capacity {ms} {f} c k r =
       all-map (λ x h. h .1) (k .log)
-      (log-all p Proper (sends-proper S) r (all-both (λ x i e. (i, e)) (fed p ms) inside (without-all Suited (retracted ms) (posts p 0 ms) (posts-suit 0 ms))) tt)
+      (log-all p Proper (sends-proper S) r (all-both (λ x i e. (i, e)) (fed p ms) inside (without-all EventSuits (retracted ms) (posts p 0 ms) (posts-suit 0 ms))) tt)
     where
       inside : All (λ x. x .target < p .count) (fed p ms)
       inside = fed-inside p S f (posts p 0 ms) (retracted ms) (logs ms) (after-calls p S capacity c .0)
