@@ -137,6 +137,14 @@ fn compare(seed: u64) -> u64 {
     calls
 }
 
+// A reading, a frame of station 0 with some repeats made, or a level.
+fn posted(dice: &mut Dice) -> (u64, u64) {
+    match 1 + dice.below(3) {
+        2 => (2, 256 * dice.below(4)),
+        kind => (kind, 0),
+    }
+}
+
 // Every call on a buffer with bytes that no engine has left: it ends, stays inside, and a refusal changes nothing.
 fn damage(seed: u64) -> u64 {
     let mut dice = Dice(seed.wrapping_mul(0xD134_2543_DE82_EF95) | 1);
@@ -148,7 +156,8 @@ fn damage(seed: u64) -> u64 {
     {
         let mut engine = Engine::open(&plan, 64, capacity as u64, &mut all[32..size + 32]).unwrap();
         for _ in 0..40 {
-            let _ = engine.post_numbers(dice.below(line.len() as u64), dice.below(200), 1 + dice.below(3), 256 * dice.below(4));
+            let (kind, value) = posted(&mut dice);
+            let _ = engine.post_numbers(dice.below(line.len() as u64), dice.below(200), kind, value);
             let _ = engine.run_lowest();
             let _ = engine.run_station(dice.below(line.len() as u64));
         }
@@ -182,7 +191,10 @@ fn damage(seed: u64) -> u64 {
         let mut engine = Engine::resume(&mut all[32..cut + 32]);
         let number = dice.pick(&[0, 1, 2, 5, 100, 255, 256, 65_535, reference::H, u64::MAX]);
         let refused = match dice.below(6) {
-            0 => engine.post_numbers(number, dice.below(300), 1 + dice.below(3), 256 * dice.below(5)).is_err(),
+            0 => {
+                let (kind, value) = posted(&mut dice);
+                engine.post_numbers(number, dice.below(300), kind, value).is_err()
+            }
             1 => engine.retract(number).is_err(),
             2 => engine.run_station(number).is_err(),
             3 => engine.run_lowest().is_err(),
