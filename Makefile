@@ -1,6 +1,6 @@
 # The gate is `sh .ci/run`. This file has what is run by hand.
 
-.PHONY: library example test fuzz benchmark benchmark-calendar
+.PHONY: library example test outputs fuzz benchmark benchmark-calendar
 
 CASES ?= 2000
 SEED ?= 1
@@ -22,6 +22,18 @@ example: library
 # That hour against the plain machine.
 test: library
 	cd rust && $(CARGO) test
+
+# What tools/ write, against the files of the crates that they wrote.
+outputs:
+	python3 tools/worked.py | cmp - crates/rules_worked/proofs/Lists.antt
+	python3 tools/generator.py | cmp - crates/generator_test/stdout
+	python3 tools/calendar.py | cmp - crates/calendar_test/stdout
+	python3 tools/commands.py tools/lines/river.txt 7 1500 | cmp - crates/bench_long/stdin
+	for bench in two:bench two:bench_refusals repeats:bench_repeats river:bench_long; do \
+	    line=tools/lines/$${bench%:*}.txt crate=crates/$${bench#*:}; \
+	    python3 tools/plan.py < $$line | cmp - $$crate/data/plan.bin && \
+	    python3 tools/bench.py $$line < $$crate/stdin | cmp - $$crate/stdout || exit 1; \
+	done
 
 # The engine against a simple one, call by call, and on damaged buffers.
 fuzz: library
