@@ -1,3 +1,4 @@
+pub mod Either
 pub mod All
 pub mod Members
 pub mod Order

@@ -11,6 +11,7 @@ use Rattle.line.specs.declared.Matter.{Matter}
 use Rattle.line.specs.declared.Matter.the-variants.{Read, Frame, Level}
 use Rattle.line.specs.declared.State.{State}
 use Rattle.line.specs.Station.{Outcome, send, silent, period, runRead, drawnState, lose, hear, repeat, pass, runFrame, runLevel, runMatter}
+use Rattle.line.proofs.Either.{either}
 
 -- the states that running the matter m may leave
 pub data MayLeave (st : State) : Matter → State → Type 0 where
@@ -34,16 +35,12 @@ module _ (c : Config) (s t : ℕ) (st : State) (m : Matter) where
     two : {v : State} {u to u′ to′ : ℕ} {k k′ : Matter} → MayLeave st m v → MaySend c s t st m u to k → MaySend c s t st m u′ to′ k′
         → Possible (send s u′ to′ k′ (send s u to k (silent v)))
 
-  either : (b : Bool) (o₁ o₂ : Outcome) → Possible o₁ → Possible o₂ → Possible (cond b o₁ o₂)
-  either true o₁ o₂ p q = p
-  either false o₁ o₂ p q = q
-
 pub possible : (c : Config) (s t : ℕ) (st : State) (m : Matter) → Possible c s t st m (runMatter c s t m st)
 unfolding runMatter runRead runFrame runLevel repeat pass
-possible c s t st Read = either c s t st Read (eqb s 0) _ _ (none unchanged) (two unchanged next-reading own-frame)
+possible c s t st Read = either (Possible c s t st Read) (eqb s 0) _ _ (none unchanged) (two unchanged next-reading own-frame)
 possible c s t st (Frame origin repeats) =
-    either c s t st (Frame origin repeats) (leb (nextDraw (st .draw)) (c .noise)) _ _ (again (ltb repeats 3) refl)
-    (either c s t st (Frame origin repeats) (eqb s 0) _ _ (none heard) (one heard passed-on))
+    either (Possible c s t st (Frame origin repeats)) (leb (nextDraw (st .draw)) (c .noise)) _ _ (again (ltb repeats 3) refl)
+    (either (Possible c s t st (Frame origin repeats)) (eqb s 0) _ _ (none heard) (one heard passed-on))
   where
     again : (b : Bool) → ltb repeats 3 ≡ b
         → Possible c s t st (Frame origin repeats) (cond b (send s (t + c .hop) s (Frame origin (suc repeats)) (silent (lose (drawnState st)))) (silent (lose (drawnState st))))

@@ -15,6 +15,7 @@ use Rattle.line.specs.declared.Matter.{Matter}
 use Rattle.line.specs.declared.State.{State}
 use Rattle.line.specs.Station.{Plan, InRange, Outcome, send, silent, period, drawnState, lose, hear, runMatter, runAt, runEvent}
 use Rattle.line.specs.Order.{Differ, All}
+use Rattle.line.proofs.Either.{either}
 use Rattle.line.proofs.Order.{differ-number}
 use Rattle.line.proofs.Fits.{Fits, fits}
 use Rattle.line.proofs.All.{all-map, all-snoc, Distinct, distinct-snoc}
@@ -90,11 +91,7 @@ sent-kept level = refl
 module _ (s : ℕ) (c : Config) (F : Fits s c) where
   period-least : (st : State) → 1 ≤ period c st
   unfolding period
-  period-least st = go (leb (c .threshold) (st .level))
-    where
-      go : (v : Bool) → 1 ≤ cond v (c .spring) (c .calm)
-      go true = F .spring-least
-      go false = F .calm-least
+  period-least st = either (λ n. 1 ≤ n) (leb (c .threshold) (st .level)) (c .spring) (c .calm) (F .spring-least) (F .calm-least)
 
   later : {t u to : ℕ} {st : State} {m k : Matter} → MaySend c s t st m u to k → t < u
   later {st = st} next-reading = omega (arith, period-least st)
@@ -129,11 +126,7 @@ silent-all P st = tt
 
 send-all : (P : Event → Type 0) (s u to : ℕ) (m : Matter) (o : Outcome) → P (sending s u to m o) → All P (o .sends) → All P (send s u to m o .sends)
 unfolding send
-send-all P s u to m o h a = go (leb u horizon)
-  where
-    go : (v : Bool) → All P ((cond v (made s u to m o) o) .sends)
-    go true = all-snoc P (o .sends) (sending s u to m o) a h
-    go false = a
+send-all P s u to m o h a = either (λ r. All P (r .sends)) (leb u horizon) (made s u to m o) o (all-snoc P (o .sends) (sending s u to m o) a h) a
 
 -- y is one of those that running x from st may send
 abbrev Allowed : Plan → State → Event → Event → Type 0
@@ -158,11 +151,9 @@ silent-few st = refl
 
 send-few : (s u to : ℕ) (m : Matter) (o : Outcome) → length (send s u to m o .sends) ≤ suc (length (o .sends))
 unfolding send
-send-few s u to m o = go (leb u horizon)
-  where
-    go : (v : Bool) → length ((cond v (made s u to m o) o) .sends) ≤ suc (length (o .sends))
-    go true = omega (arith, length-append (o .sends) (sending s u to m o ∷ []))
-    go false = omega arith
+send-few s u to m o =
+    either (λ r. length (r .sends) ≤ suc (length (o .sends))) (leb u horizon) (made s u to m o) o (omega (arith, length-append (o .sends) (sending s u to m o ∷ [])))
+    (omega arith)
 
 possible-few : {c : Config} {s t : ℕ} {st : State} {m : Matter} {o : Outcome} → Possible c s t st m o → length (o .sends) ≤ 2
 possible-few (none {v} l) = omega (arith, silent-few v)

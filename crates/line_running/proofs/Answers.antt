@@ -18,6 +18,7 @@ use Rattle.line.specs.declared.Ran.{Ran}
 use Rattle.line.specs.declared.Ran.the-variants.{Done}
 use Rattle.line.specs.Station.{Outcome, silent, send, repeat, pass}
 use Rattle.line.specs.Answer.{countsPass, Counted, within, refusedBy, over, counted, sendsOf, said}
+use Rattle.line.proofs.Either.{either}
 use Rattle.line.proofs.Sends.{made}
 
 -- the counts of a state fit 32 bits, or one of them passes
@@ -76,11 +77,7 @@ module _ (s u to : ℕ) (m : Matter) where
 
   pub stays : (o : Outcome) → over ≡ counted o → over ≡ counted (send s u to m o)
   unfolding send
-  stays o e = go (leb u horizon)
-    where
-      go : (v : Bool) → over ≡ counted (cond v (made s u to m o) o)
-      go true = passed (made s u to m o) (λ h l k. past o e h l (omega arith))
-      go false = e
+  stays o e = either (λ r. over ≡ counted r) (leb u horizon) (made s u to m o) o (passed (made s u to m o) (λ h l k. past o e h l (omega arith))) e
 
   -- on a state with sends, it is the send on the state alone with those sends ahead
   onto : (o : Outcome) → counted (send s u to m o) ≡ ahead (o .sends) (counted (send s u to m (silent (o .after))))
@@ -99,14 +96,10 @@ module _ (s u to : ℕ) (m : Matter) where
   chain r o p e h = rw (whole o _ (single r o p e h)) (onto _)
 
 -- the same where a frame may be repeated or passed on
-either-over : (b : Bool) (o₁ o₂ : Outcome) → over ≡ counted o₁ → over ≡ counted o₂ → over ≡ counted (cond b o₁ o₂)
-either-over true o₁ o₂ e f = e
-either-over false o₁ o₂ e f = f
-
 pub repeat-stays : (c : Config) (s t origin repeats : ℕ) (o : Outcome) → over ≡ counted o → over ≡ counted (repeat c s t origin repeats o)
 unfolding repeat
-repeat-stays c s t origin repeats o e = either-over (ltb repeats 3) _ o (stays s (t + c .hop) s (Frame origin (suc repeats)) o e) e
+repeat-stays c s t origin repeats o e = either (λ r. over ≡ counted r) (ltb repeats 3) _ o (stays s (t + c .hop) s (Frame origin (suc repeats)) o e) e
 
 pub pass-stays : (c : Config) (s t origin : ℕ) (o : Outcome) → over ≡ counted o → over ≡ counted (pass c s t origin o)
 unfolding pass
-pass-stays c s t origin o e = either-over (eqb s 0) o _ e (stays s (t + c .hop) (c .parent) (Frame origin 0) o e)
+pass-stays c s t origin o e = either (λ r. over ≡ counted r) (eqb s 0) o _ e (stays s (t + c .hop) (c .parent) (Frame origin 0) o e)

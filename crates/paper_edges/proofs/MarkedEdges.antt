@@ -12,6 +12,7 @@ use Rattle.line.specs.declared.Config.{Config}
 use Rattle.line.specs.declared.Matter.{Matter}
 use Rattle.line.specs.declared.State.{State}
 use Rattle.line.specs.Station.{Outcome, silent, send, repeat, pass, lose, hear, drawnState, period, runRead, runFrame}
+use Rattle.line.proofs.Either.{either}
 use Rattle.calendar.specs.Ring.{leafFor}
 use Rattle.plan_format.proofs.Edges as plan
 use Rattle.paper_edges.specs.MarkedEdges.{Marked}
@@ -21,22 +22,18 @@ use Rattle.paper_edges.specs.MarkedEdges.{Marked}
 abbrev Counts : Outcome → State → Type 0
 Counts o st = (o .after .heard ≡ st .heard) × (o .after .lost ≡ st .lost)
 
-either : (v : Bool) (a b : Outcome) (st : State) → Counts a st → Counts b st → Counts (cond v a b) st
-either true a b st k l = k
-either false a b st k l = l
-
 -- a send keeps heard and lost
 send-counts : (s t to : ℕ) (m : Matter) (o : Outcome) → Counts (send s t to m o) (o .after)
 unfolding send
-send-counts s t to m o = either (leb t horizon) _ o (o .after) (refl, refl) (refl, refl)
+send-counts s t to m o = either (λ r. Counts r (o .after)) (leb t horizon) _ o (refl, refl) (refl, refl)
 
 pass-counts : (c : Config) (s t origin : ℕ) (o : Outcome) → Counts (pass c s t origin o) (o .after)
 unfolding pass
-pass-counts c s t origin o = either (eqb s 0) o _ (o .after) (refl, refl) (send-counts s (t + c .hop) (c .parent) (Matter.Frame origin 0) o)
+pass-counts c s t origin o = either (λ r. Counts r (o .after)) (eqb s 0) o _ (refl, refl) (send-counts s (t + c .hop) (c .parent) (Matter.Frame origin 0) o)
 
 repeat-counts : (c : Config) (s t origin repeats : ℕ) (o : Outcome) → Counts (repeat c s t origin repeats o) (o .after)
 unfolding repeat
-repeat-counts c s t origin repeats o = either (ltb repeats 3) _ o (o .after) (send-counts s (t + c .hop) s (Matter.Frame origin (suc repeats)) o) (refl, refl)
+repeat-counts c s t origin repeats o = either (λ r. Counts r (o .after)) (ltb repeats 3) _ o (send-counts s (t + c .hop) s (Matter.Frame origin (suc repeats)) o) (refl, refl)
 
 heard-test : (c : Config) (st : State) → c .noise ≡ 16806 → st .draw ≡ 1 → leb (nextDraw (st .draw)) (c .noise) ≡ false
 heard-test c st n d = rw (n, d, after-1)
@@ -79,11 +76,7 @@ late-send s k to m o l = rw (late k l)
 
 period-some : (c : Config) (st : State) → 1 ≤ c .calm → 1 ≤ c .spring → 1 ≤ period c st
 unfolding period
-period-some c st a b = go (leb (c .threshold) (st .level))
-  where
-    go : (v : Bool) → 1 ≤ cond v (c .spring) (c .calm)
-    go true = b
-    go false = a
+period-some c st a b = either (λ n. 1 ≤ n) (leb (c .threshold) (st .level)) (c .spring) (c .calm) b a
 
 last-reading : (c : Config) (st : State) → 1 ≤ c .calm → 1 ≤ c .spring → 1 ≤ c .hop → (s : ℕ) → runRead c s horizon st .sends ≡ []
 unfolding runRead silent
