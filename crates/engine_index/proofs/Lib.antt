@@ -1,3 +1,4 @@
+pub mod CellFrames
 pub mod Places
 pub mod Rings
 pub mod Slots

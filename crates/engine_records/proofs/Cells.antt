@@ -12,7 +12,7 @@ use Rattle.line.specs.declared.Event.{Event}
 use Rattle.line.specs.declared.State.{State}
 use Rattle.line.specs.declared.Config.{Config}
 use Rattle.entry.specs.Entry.{eventAt, putEvent}
-use Rattle.engine_records.specs.Records.{stateAt, putState, storedConfig, putConfig}
+use Rattle.engine_records.specs.Records.{stateBytes, configBytes, stateAt, putState, storedConfig, putConfig}
 use Rattle.line.specs.Widths.{EventFits, StateFits, ConfigFits}
 use Rattle.entry.proofs.EntryLaws.{length-event, event-beside, event-back}
 use Rattle.engine_records.proofs.RecordLaws.{length-state, length-config, state-beside, config-beside, state-back, config-back}
@@ -33,8 +33,8 @@ place (config at) = at
 abbrev pub width : Cell → ℕ
 width (number m at) = m
 width (event at) = 24
-width (state at) = 20
-width (config at) = 28
+width (state at) = stateBytes
+width (config at) = configBytes
 
 abbrev pub Value : Cell → Type 0
 Value (number m at) = ℕ
@@ -97,7 +97,7 @@ load-beside (state at) v xs m j a = state-beside at v xs m j a
 load-beside (config at) v xs m j a = config-beside at v xs m j a
 
 -- numbers that are as they were within a cell
-within : (c : Cell) (xs ys : List ℕ) → ((m j : ℕ) → place c ≤ j → j + m ≤ place c + width c → loadAt m j ys ≡ loadAt m j xs)
+pub within : (c : Cell) (xs ys : List ℕ) → ((m j : ℕ) → place c ≤ j → j + m ≤ place c + width c → loadAt m j ys ≡ loadAt m j xs)
     → read c ys ≡ read c xs
 unfolding eventAt stateAt storedConfig
 within (number m at) xs ys h = h m at (omega arith) (omega arith)

@@ -10,7 +10,7 @@ use Rattle.words.specs.Le.{loadAt, storeAt}
 use Rattle.words.proofs.Laws.{Apart, length-store, load-other, load-stored}
 use Rattle.line.specs.declared.State.{State}
 use Rattle.line.specs.declared.Config.{Config}
-use Rattle.engine_records.specs.Records.{stateAt, putState, storedConfig, putConfig}
+use Rattle.engine_records.specs.Records.{stateBytes, configBytes, stateAt, putState, storedConfig, putConfig}
 use Rattle.line.specs.Widths.{StateFits, ConfigFits}
 use Rattle.words.proofs.Run.{Run, puts, size, Fit, Reads, length-puts, puts-beside, puts-back}
 
@@ -41,11 +41,11 @@ length-config at c xs = rw (config-run, length-puts at 4 (configRun c)) (length-
 
 -- ---- beside a record
 
-pub state-beside : (at : ℕ) (s : State) (xs : List ℕ) (m j : ℕ) → Apart at 20 j m → loadAt m j (putState at s xs) ≡ loadAt m j xs
+pub state-beside : (at : ℕ) (s : State) (xs : List ℕ) (m j : ℕ) → Apart at stateBytes j m → loadAt m j (putState at s xs) ≡ loadAt m j xs
 unfolding size
 state-beside at s xs m j a = rw state-run (puts-beside at 0 (stateRun s) xs m j (rw add-zero a))
 
-pub config-beside : (at : ℕ) (c : Config) (xs : List ℕ) (m j : ℕ) → Apart at 28 j m → loadAt m j (putConfig at c xs) ≡ loadAt m j xs
+pub config-beside : (at : ℕ) (c : Config) (xs : List ℕ) (m j : ℕ) → Apart at configBytes j m → loadAt m j (putConfig at c xs) ≡ loadAt m j xs
 unfolding size
 config-beside at c xs m j (inl h) =
     rw config-run (puts-beside at 4 (configRun c) (storeAt 2 at (c .parent) xs) m j (inl (omega arith)) ∙ load-other m 2 at (c .parent) xs j (inl (omega arith)))
@@ -54,14 +54,14 @@ config-beside at c xs m j (inr h) =
 
 -- ---- read back
 
-pub state-back : (at : ℕ) (s : State) (xs : List ℕ) → at + 20 ≤ length xs → StateFits s → stateAt at (putState at s xs) ≡ s
+pub state-back : (at : ℕ) (s : State) (xs : List ℕ) → at + stateBytes ≤ length xs → StateFits s → stateAt at (putState at s xs) ≡ s
 unfolding stateAt size Fit Reads
 state-back at s xs h f =
     let fit : Fit (stateRun s) = (f .draw, (f .level, (f .heard, (f .lost, (f .sent, tt))))) in
     let r : Reads at 0 (stateRun s) (putState at s xs) = rw state-run (puts-back at 0 (stateRun s) xs (rw add-zero h) fit) in
     rw (rw add-zero at (r .0), r .1 .0, r .1 .1 .0, r .1 .1 .1 .0, r .1 .1 .1 .1 .0)
 
-pub config-back : (at : ℕ) (c : Config) (xs : List ℕ) → at + 28 ≤ length xs → ConfigFits c → storedConfig at (putConfig at c xs) ≡ c
+pub config-back : (at : ℕ) (c : Config) (xs : List ℕ) → at + configBytes ≤ length xs → ConfigFits c → storedConfig at (putConfig at c xs) ≡ c
 unfolding storedConfig size Fit Reads
 config-back at c xs h f =
     let ys : List ℕ = storeAt 2 at (c .parent) xs in

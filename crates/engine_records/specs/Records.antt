@@ -5,6 +5,13 @@ use Rattle.words.specs.Le.{loadAt, storeAt}
 use Rattle.line.specs.declared.State.{State}
 use Rattle.line.specs.declared.Config.{Config}
 
+-- how many bytes each takes
+abbrev pub stateBytes : ℕ
+stateBytes = 20
+
+abbrev pub configBytes : ℕ
+configBytes = 28
+
 unfoldable pub stateAt : ℕ → List ℕ → State
 stateAt at xs = record {
   draw = loadAt 4 at xs;

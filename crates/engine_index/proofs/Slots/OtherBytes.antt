@@ -6,7 +6,7 @@ use Prim.Native.Nat.{ℕ, _+_, _*_, _≤_, _<_}
 use native.Mathlib.Decide.{ℕ-discrete, decLt}
 use native.Mathlib.Nat.{add-zero}
 use native.Mathlib.Omega.{arith}
-use Rattle.words.specs.Le.{loadAt, storeAt}
+use Rattle.words.specs.Le.{storeAt}
 use Rattle.line.specs.Order.{All}
 use Rattle.rules.specs.Held.{Held, unrun, ran}
 use Rattle.rings.specs.Table.{Outside, Frame}
@@ -17,9 +17,11 @@ use Rattle.rings.proofs.Families.{rings-elsewhere, free-all}
 use Rattle.engine_rows.specs.Layout.{slotRow}
 use Rattle.entry.specs.Entry.{eventAt}
 use Rattle.engine_records.specs.Records.{stateAt}
+use Rattle.engine_records.proofs.Cells.{event, state}
 use Rattle.engine_rows.proofs.Rows.{slots}
 use Rattle.engine_index.specs.Layout.{linksAt, logAt, nodesOf, indexBytes, slotOf}
 use Rattle.engine_index.specs.Represents.{Cell, contents, statusAt, HeldAt, Stored, Free, Stands}
+use Rattle.engine_index.proofs.CellFrames.{row-kept}
 use Rattle.engine_index.proofs.Slots.OtherSlots.{Other, Others, others, others-free}
 
 -- ---- slots that hold the same
@@ -29,39 +31,16 @@ pub record Alike (n x : ℕ) (xs ys : List ℕ) : Type 0 where
   pub same-state : stateAt (slotRow n (slotOf n x) + 24) ys ≡ stateAt (slotRow n (slotOf n x) + 24) xs
   pub same-status : statusAt n x ys ≡ statusAt n x xs
 
--- the event and the state stand in the first 44 bytes, the status in bytes 60 and 61
-alike : {a l : ℕ} {xs ys : List ℕ} (n x : ℕ) → Frame a l xs ys → Outside a l (slotRow n (slotOf n x)) 44 → Outside a l (slotRow n (slotOf n x) + 60) 2
+-- the event and the state stand before the slot's numbers, which start at byte 56; the status is in bytes 60 and 61
+alike : {a l : ℕ} {xs ys : List ℕ} (n x : ℕ) → Frame a l xs ys → Outside a l (slotRow n (slotOf n x)) 56 → Outside a l (slotRow n (slotOf n x) + 60) 2
     → Alike n x xs ys
-unfolding eventAt stateAt
-alike {a} {l} {xs} {ys} n x F out end =
+alike n x F out end =
     let row = slotRow n (slotOf n x) in
     record {
-      same-event =
-          rw (
-            at 8 row (omega arith) (omega arith),
-            at 4 (row + 8) (omega arith) (omega arith),
-            at 4 (row + 12) (omega arith) (omega arith),
-            at 2 (row + 16) (omega arith) (omega arith),
-            at 2 (row + 18) (omega arith) (omega arith),
-            at 4 (row + 20) (omega arith) (omega arith),
-          );
-      same-state =
-          rw (
-            at 4 (row + 24) (omega arith) (omega arith),
-            at 4 (row + 24 + 4) (omega arith) (omega arith),
-            at 4 (row + 24 + 8) (omega arith) (omega arith),
-            at 4 (row + 24 + 12) (omega arith) (omega arith),
-            at 4 (row + 24 + 16) (omega arith) (omega arith),
-          );
+      same-event = row-kept {c = event row} (record { from = omega arith; to = omega arith }) F out;
+      same-state = row-kept {c = state (row + 24)} (record { from = omega arith; to = omega arith }) F out;
       same-status = F .loads 2 (row + 60) end;
     }
-  where
-    part : (m j : ℕ) → slotRow n (slotOf n x) ≤ j → j + m ≤ slotRow n (slotOf n x) + 44 → Outside a l (slotRow n (slotOf n x)) 44 → Outside a l j m
-    part m j h k (inl p) = inl (omega arith)
-    part m j h k (inr p) = inr (omega arith)
-
-    at : (m j : ℕ) → slotRow n (slotOf n x) ≤ j → j + m ≤ slotRow n (slotOf n x) + 44 → loadAt m j ys ≡ loadAt m j xs
-    at m j h k = F .loads m j (part m j h k out)
 
 alike-held : {xs ys : List ℕ} (n x : ℕ) (h : Held) → Alike n x xs ys → HeldAt n xs x h → HeldAt n ys x h
 alike-held n x (unrun e) L H = (L .same-event ∙ H .0, L .same-status ∙ H .1)
@@ -134,9 +113,9 @@ stands-number {n} {c} {xs} i m v h k d S =
     away j q w b (inl o) = inl (omega arith)
     away j q w b (inr o) = inr (omega arith)
 
-    head : (j : ℕ) → Dec (i ≡ j) → Outside (slotRow n i + 56 + 2 * m) 2 (slotRow n j) 44
+    head : (j : ℕ) → Dec (i ≡ j) → Outside (slotRow n i + 56 + 2 * m) 2 (slotRow n j) 56
     head j (yes e) = inr (omega arith)
-    head j (no f) = rw add-zero at (away j 0 44 (omega arith) (slots n i j f))
+    head j (no f) = rw add-zero at (away j 0 56 (omega arith) (slots n i j f))
 
     split : Dec (m < 2) → (m < 2) ⊎ (2 < m)
     split (yes e) = inl e

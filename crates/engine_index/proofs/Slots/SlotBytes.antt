@@ -17,20 +17,15 @@ use Rattle.engine_rows.specs.Layout.{slotRow}
 use Rattle.entry.specs.Entry.{eventAt, putEvent}
 use Rattle.engine_records.specs.Records.{stateAt, putState}
 use Rattle.line.specs.Widths.{EventFits, StateFits}
-use Rattle.entry.proofs.EntryLaws.{length-event, event-beside, event-back}
-use Rattle.engine_records.proofs.RecordLaws.{length-state, state-beside, state-back}
-use Rattle.engine_records.proofs.Cells.{number, event, state, read-beside}
+use Rattle.entry.proofs.EntryLaws.{length-event, event-back}
+use Rattle.engine_records.proofs.RecordLaws.{length-state, state-back}
+use Rattle.engine_records.proofs.Cells.{number, event, state, read-beside, within}
 use Rattle.engine_rows.proofs.Rows.{slots}
 use Rattle.engine_index.specs.Layout.{slotOf, linksAt}
 use Rattle.engine_index.specs.Represents.{statusAt, HeldAt}
+use Rattle.engine_index.proofs.CellFrames.{written-only}
 
 -- ---- frames
-
-pub event-frame : (at : ℕ) (x : Event) (xs : List ℕ) → Frame at 24 xs (putEvent at x xs)
-event-frame at x xs = record { size = length-event at x xs; loads = λ m j h. event-beside at x xs m j h }
-
-pub state-frame : (at : ℕ) (v : State) (xs : List ℕ) → Frame at 20 xs (putState at v xs)
-state-frame at v xs = record { size = length-state at v xs; loads = λ m j h. state-beside at v xs m j h }
 
 -- the stores to slot i, each in the order of the code
 module _ (n i : ℕ) where
@@ -39,11 +34,11 @@ module _ (n i : ℕ) where
 
   pub put-frame : (e : Event) (v : ℕ) (xs : List ℕ) → Frame (slotRow n i) 64 xs (storeAt 2 (slotRow n i + 60) v (putEvent (slotRow n i) e xs))
   put-frame e v xs =
-      frame-on (frame-wider (slotRow n i) 64 (omega arith) (omega arith) (event-frame (slotRow n i) e xs)) (status-frame v (putEvent (slotRow n i) e xs))
+      frame-on (frame-wider (slotRow n i) 64 (omega arith) (omega arith) (written-only (event (slotRow n i)) e xs)) (status-frame v (putEvent (slotRow n i) e xs))
 
   pub save-frame : (s : State) (v : ℕ) (xs : List ℕ) → Frame (slotRow n i) 64 xs (storeAt 2 (slotRow n i + 60) v (putState (slotRow n i + 24) s xs))
   save-frame s v xs =
-      frame-on (frame-wider (slotRow n i) 64 (omega arith) (omega arith) (state-frame (slotRow n i + 24) s xs))
+      frame-on (frame-wider (slotRow n i) 64 (omega arith) (omega arith) (written-only (state (slotRow n i + 24)) s xs))
       (status-frame v (putState (slotRow n i + 24) s xs))
 
 -- ---- a slot that is as it was
@@ -53,29 +48,10 @@ pub record Kept (n i : ℕ) (xs ys : List ℕ) : Type 0 where
 
 module _ {xs ys : List ℕ} (n x : ℕ) (K : Kept n (slotOf n x) xs ys) where
   pub event-kept : eventAt (slotRow n (slotOf n x)) ys ≡ eventAt (slotRow n (slotOf n x)) xs
-  unfolding eventAt
-  event-kept =
-      let r = slotRow n (slotOf n x) in
-      rw (
-        K .loads 8 r (omega arith) (omega arith),
-        K .loads 4 (r + 8) (omega arith) (omega arith),
-        K .loads 4 (r + 12) (omega arith) (omega arith),
-        K .loads 2 (r + 16) (omega arith) (omega arith),
-        K .loads 2 (r + 18) (omega arith) (omega arith),
-        K .loads 4 (r + 20) (omega arith) (omega arith),
-      )
+  event-kept = within (event (slotRow n (slotOf n x))) xs ys (λ m j h k. K .loads m j (omega arith) (omega arith))
 
   pub state-kept : stateAt (slotRow n (slotOf n x) + 24) ys ≡ stateAt (slotRow n (slotOf n x) + 24) xs
-  unfolding stateAt
-  state-kept =
-      let r = slotRow n (slotOf n x) + 24 in
-      rw (
-        K .loads 4 r (omega arith) (omega arith),
-        K .loads 4 (r + 4) (omega arith) (omega arith),
-        K .loads 4 (r + 8) (omega arith) (omega arith),
-        K .loads 4 (r + 12) (omega arith) (omega arith),
-        K .loads 4 (r + 16) (omega arith) (omega arith),
-      )
+  state-kept = within (state (slotRow n (slotOf n x) + 24)) xs ys (λ m j h k. K .loads m j (omega arith) (omega arith))
 
   pub status-kept : statusAt n x ys ≡ statusAt n x xs
   status-kept = K .loads 2 (slotRow n (slotOf n x) + 60) (omega arith) (omega arith)

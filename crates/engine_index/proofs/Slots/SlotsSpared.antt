@@ -14,12 +14,12 @@ use Rattle.rings.proofs.Confined.{insert-frame, unlink-frame}
 use Rattle.engine_rows.specs.Layout.{slotRow}
 use Rattle.entry.specs.Entry.{putEvent}
 use Rattle.engine_records.specs.Records.{putState}
-use Rattle.engine_records.proofs.Cells.{number, beside}
+use Rattle.engine_records.proofs.Cells.{number, event, state, beside}
 use Rattle.engine_index.specs.Layout.{linksAt, logAt, nodesOf, slotOf}
 use Rattle.engine_index.specs.Steps.{filed, freed}
 use Rattle.engine_index.specs.Promises.{Spares, Sets}
 use Rattle.engine_index.proofs.Places.Layout.{least, from-links}
-use Rattle.engine_index.proofs.Slots.SlotBytes.{event-frame, state-frame}
+use Rattle.engine_index.proofs.CellFrames.{written-only}
 use Rattle.engine_index.proofs.Changes.Put.{putBytes}
 use Rattle.engine_index.proofs.Changes.Mark.{markBytes}
 use Rattle.engine_index.proofs.Changes.Unmark.{unmarkBytes}
@@ -110,11 +110,11 @@ module _ (n c : ℕ) where
 
   event-in : (x : ℕ) (xs : List ℕ) (e : Event) → Spares n c x xs (putEvent (slotRow n (slotOf n x)) e xs)
   event-in x xs e =
-      spares-head n c x (slotOf n x) (frame-wider (slotRow n (slotOf n x)) 56 (omega arith) (omega arith) (event-frame (slotRow n (slotOf n x)) e xs))
+      spares-head n c x (slotOf n x) (frame-wider (slotRow n (slotOf n x)) 56 (omega arith) (omega arith) (written-only (event (slotRow n (slotOf n x))) e xs))
 
   state-in : (x : ℕ) (xs : List ℕ) (v : State) → Spares n c x xs (putState (slotRow n (slotOf n x) + 24) v xs)
   state-in x xs v =
-      spares-head n c x (slotOf n x) (frame-wider (slotRow n (slotOf n x)) 56 (omega arith) (omega arith) (state-frame (slotRow n (slotOf n x) + 24) v xs))
+      spares-head n c x (slotOf n x) (frame-wider (slotRow n (slotOf n x)) 56 (omega arith) (omega arith) (written-only (state (slotRow n (slotOf n x) + 24)) v xs))
 
 -- ---- each change
 

@@ -14,14 +14,14 @@ use Rattle.rules.specs.Held.{unrun, ran, Queue}
 use Rattle.rings.specs.Table.{Outside}
 use Rattle.rings.proofs.Frames.{store-frame}
 use Rattle.engine_rows.specs.Layout.{slotRow}
-use Rattle.engine_rows.proofs.Rows.{slots}
+use Rattle.engine_rows.proofs.Rows.{config-in, state-in, slots}
 use Rattle.engine_index.specs.Layout.{slotOf}
 use Rattle.engine_index.specs.Represents.{Cell, cell}
+use Rattle.engine_index.proofs.CellFrames.{row-kept}
 use Rattle.engine_index.proofs.Slots.OtherBytes.{stands-number}
 use Rattle.engine_events.specs.Represents.{Has, nonzero, sendsAt, Stores}
 use Rattle.engine_moves.proofs.Cells.SendNodes.{sends-as}
 use Rattle.engine_moves.proofs.Cells.Members.{member, member-slot}
-use Rattle.engine_moves.proofs.Bytes.Stations.{config-kept, state-kept}
 
 -- ---- one number
 
@@ -50,8 +50,8 @@ module _ {p : Plan} {n c now : ℕ} {xs : List ℕ} {q : Queue} {cells : List Ce
         count = S .count;
         some = S .some;
         long = rw (F .size) (S .long);
-        configs = λ s b. config-kept n s b F (omega arith) ∙ S .configs s b;
-        states = λ s b. state-kept n s b F (omega arith) ∙ S .states s b;
+        configs = λ s b. row-kept (config-in n s) F (inr (omega arith)) ∙ S .configs s b;
+        states = λ s b. row-kept (state-in n s) F (inr (omega arith)) ∙ S .states s b;
         free = S .free;
         stands = stands-number (slotOf n x) k v (member-slot (S .stands) (cell x (unrun e)) m) (omega arith) (omega arith) (S .stands);
         places = S .places;

@@ -15,9 +15,10 @@ use Rattle.engine_records.specs.Records.{stateAt, putState}
 use Rattle.line.specs.Widths.{StateFits}
 use Rattle.engine_records.proofs.RecordLaws.{length-state, state-back}
 use Rattle.engine_records.proofs.Cells.{state, config, beside, read-beside}
+use Rattle.engine_rows.proofs.Rows.{stateOf}
 use Rattle.engine_index.specs.Layout.{slotOf}
 use Rattle.engine_index.specs.Represents.{Cell}
-use Rattle.engine_index.proofs.Slots.SlotBytes.{state-frame}
+use Rattle.engine_index.proofs.CellFrames.{written-only}
 use Rattle.engine_index.proofs.Slots.OtherBytes.{stands-elsewhere}
 use Rattle.engine_events.specs.Represents.{Stores}
 use Rattle.engine_moves.proofs.Cells.SendNodes.{sends-as}
@@ -45,7 +46,7 @@ module _ {p : Plan} {n c now : ℕ} {xs : List ℕ} {q : Queue} {cells : List Ce
         ∙ S .configs s b;
     states = λ s b. state-at s b (which s t);
     free = S .free;
-    stands = stands-elsewhere (state-frame (stationRow n t + 32) v xs) (inl (omega arith)) (S .stands);
+    stands = stands-elsewhere (written-only (stateOf n t) v xs) (inl (omega arith)) (S .stands);
     places = S .places;
     held = S .held;
     times = S .times;
@@ -53,4 +54,4 @@ module _ {p : Plan} {n c now : ℕ} {xs : List ℕ} {q : Queue} {cells : List Ce
   }
     where
       load : (x k : ℕ) → loadAt 2 (slotRow n (slotOf n x) + k) set ≡ loadAt 2 (slotRow n (slotOf n x) + k) xs
-      load x k = state-frame (stationRow n t + 32) v xs .loads 2 (slotRow n (slotOf n x) + k) (inl (omega arith))
+      load x k = written-only (stateOf n t) v xs .loads 2 (slotRow n (slotOf n x) + k) (inl (omega arith))

@@ -1,7 +1,7 @@
 -- A new calendar and an index with all slots free hold no event.
 use mathlib.Core.Path.{_≡_, refl, sym, _∙_}
 use mathlib.Core.Bool.{Bool, false, true≢false}
-use mathlib.Core.Logic.{inl, inr}
+use mathlib.Core.Logic.{inr}
 use mathlib.Core.List.{List, [], _∷_, List·Memᴰ·not-nil}
 use Prim.Native.Nat.{ℕ, zero, suc, _+_, _-_, _*_, _≤_, _<_}
 use native.Mathlib.Omega.{arith}
@@ -11,13 +11,15 @@ use lib.Seq.{length-take-le}
 use Rattle.rules.specs.Engine.{opened}
 use Rattle.rings.specs.Table.{Frame}
 use Rattle.rings.proofs.Frames.{frame-same, frame-on, frame-wider}
-use Rattle.engine_rows.specs.Layout.{stationRow, slotRow}
+use Rattle.engine_rows.specs.Layout.{slotRow}
+use Rattle.engine_rows.proofs.Rows.{config-in, state-in}
 use Rattle.calendar.specs.declared.Answer.{Answer}
 use Rattle.calendar.specs.Rules as calendar
 use Rattle.calendar.specs.Bytes.{stateOf}
 use Rattle.calendar.specs.Promises.{OpensCalendar}
 use Rattle.engine_events.proofs.CalendarShown.{opened-shows}
 use Rattle.engine_index.specs.Layout.{indexBytes}
+use Rattle.engine_index.proofs.CellFrames.{row-kept}
 use Rattle.engine_index.specs.Promises as index
 use Rattle.engine_index.specs.Promises.{places}
 use Rattle.engine_events.specs.Represents.{fitsIn, calendarAt, part}
@@ -25,7 +27,6 @@ use Rattle.refusal.specs.Tests.{calendarBytes}
 use Rattle.engine_events.specs.Promises.{AfterHeader}
 use Rattle.engine_moves.specs.Promises.{ClearsEvents}
 use Rattle.engine_events.proofs.CalendarPart.{Put, part-put, part-kept}
-use Rattle.engine_events.proofs.StationsKept.{config-kept, state-kept}
 use Rattle.engine_events.proofs.CalendarAccepts.{accepted-done, open-accepted}
 
 length-places : (n c : ℕ) → length (places n c) ≡ c
@@ -51,8 +52,8 @@ cleared n c width {start} {end} xs zs ys {r} some few slots long ls le size O F 
             count = count;
             some = b;
             long = omega (arith, F .size, G .size);
-            configs = λ s l. config-kept F (stationRow n s) (inr (omega arith)) ∙ config-kept G (stationRow n s) (inr (omega arith)) ∙ configs s l;
-            states = λ s l. state-kept F (stationRow n s + 32) (inr (omega arith)) ∙ state-kept G (stationRow n s + 32) (inr (omega arith)) ∙ states s l;
+            configs = λ s l. row-kept (config-in n s) F (inr (omega arith)) ∙ row-kept (config-in n s) G (inr (omega arith)) ∙ configs s l;
+            states = λ s l. row-kept (state-in n s) F (inr (omega arith)) ∙ row-kept (state-in n s) G (inr (omega arith)) ∙ states s l;
             free = places n c;
             stands = K few slots (omega (arith, G .size));
             places = omega (arith, length-places n c);

@@ -1,5 +1,6 @@
 -- After a change of the index the bytes hold the changed queue: the stations stay, the times are of events that were there, and so are the sends.
 use mathlib.Core.Path.{_≡_, _∙_, subst}
+use mathlib.Core.Logic.{inr}
 use mathlib.Core.List.{List, List·Memᴰ}
 use Prim.Native.Nat.{ℕ, _+_, _≤_}
 use native.Mathlib.Omega.{arith}
@@ -11,14 +12,15 @@ use Rattle.line.specs.Station.{Plan, runEvent}
 use Rattle.rules.specs.Held.{Held, ran, event, In, Queue}
 use Rattle.rings.specs.Table.{Frame}
 use Rattle.engine_rows.specs.Layout.{slotRow}
+use Rattle.engine_rows.proofs.Rows.{config-in, state-in}
 use Rattle.engine_index.specs.Layout.{indexBytes}
 use Rattle.engine_index.specs.Promises.{Spares}
 use Rattle.engine_index.specs.Represents.{Cell, cell, Stands}
+use Rattle.engine_index.proofs.CellFrames.{row-kept}
 use Rattle.engine_events.specs.Represents.{heldOf, Has, From, Kids, Stores}
 use Rattle.engine_moves.proofs.Cells.Split.{held-in, in-held}
 use Rattle.engine_moves.proofs.Cells.SendNodes.{Still, nodes-map, sends-spared}
 use Rattle.engine_moves.proofs.Cells.Members.{member-slot}
-use Rattle.engine_moves.proofs.Bytes.Stations.{config-kept, state-kept}
 
 -- ---- times
 
@@ -53,8 +55,8 @@ index-stores {n = n} new free held S F T l e t k = record {
   count = S .count;
   some = S .some;
   long = rw (F .size) (S .long);
-  configs = λ s b. config-kept n s b F (omega arith) ∙ S .configs s b;
-  states = λ s b. state-kept n s b F (omega arith) ∙ S .states s b;
+  configs = λ s b. row-kept (config-in n s) F (inr (omega arith)) ∙ S .configs s b;
+  states = λ s b. row-kept (state-in n s) F (inr (omega arith)) ∙ S .states s b;
   free = free;
   stands = T;
   places = l;

@@ -22,7 +22,8 @@ use Rattle.engine_index.specs.Layout.{indexBytes, slotOf}
 use Rattle.engine_index.specs.Promises.{Spares, Marks}
 use Rattle.engine_index.specs.Represents.{Cell, cell}
 use Rattle.engine_index.proofs.Changes.ToRules.{mark-cells}
-use Rattle.engine_index.proofs.Slots.SlotBytes.{state-frame}
+use Rattle.engine_rows.proofs.Rows.{stateOf}
+use Rattle.engine_index.proofs.CellFrames.{written-only}
 use Rattle.engine_events.specs.Represents.{part, heldOf, Has, nonzero, sendsAt, Nodes, Kids, Stores, Calendared, Holds}
 use Rattle.engine_moves.specs.Promises.{HoldsAmong}
 use Rattle.engine_moves.specs.Steps.{Tells}
@@ -62,7 +63,7 @@ module _ (n c x : ℕ) (e : Event) (v after : State) {xs ys zs : List ℕ} (F : 
       times-from (A ++ o ∷ B) (A ++ u ∷ B) (from-swap A x (unrun e) (ran e v) B refl) (subst (Times now) (sym (S .held)) (S .times)) in
       let size : length (A ++ u ∷ B) + length (S .free) ≡ c = rw (length-swap A o u B) (S .places) in
       let G = index-stores (A ++ u ∷ B) (S .free) (mark (e .target) v (q .held)) S F D size held (subst (Times now) held times) (kids S) in
-      let part-is = part-kept n c (state-frame (stationRow n (e .target) + 32) after ys) (omega arith) ∙ part-kept n c F (omega arith) in
+      let part-is = part-kept n c (written-only (stateOf n (e .target)) after ys) (omega arith) ∙ part-kept n c F (omega arith) in
       let U =
       untold (mark (e .target) v (q .held)) (H .calendar) part-is (subst (Inside n) held (stands-inside D)) (e .target)
       (mark-elsewhere (e .target) v (q .held)) in

@@ -19,7 +19,8 @@ use Rattle.engine_index.specs.Layout.{indexBytes}
 use Rattle.engine_index.specs.Promises.{Spares, Unmarks}
 use Rattle.engine_index.specs.Represents.{Cell, cell}
 use Rattle.engine_index.proofs.Changes.ToRules.{unmark-cells}
-use Rattle.engine_index.proofs.Slots.SlotBytes.{state-frame}
+use Rattle.engine_rows.proofs.Rows.{stateOf}
+use Rattle.engine_index.proofs.CellFrames.{written-only}
 use Rattle.engine_events.specs.Represents.{heldOf, Has, Holds}
 use Rattle.engine_moves.specs.Promises.{HoldsAmong, NoneWaits}
 use Rattle.engine_moves.specs.Steps.{Tells}
@@ -57,7 +58,7 @@ module _ (n c x : ℕ) (e : Event) (b : State) {xs ys zs : List ℕ} (F : Frame 
       let size : length (A ++ u ∷ B) + length (S .free) ≡ c = rw (length-swap A o u B) (S .places) in
       let G = index-stores (A ++ u ∷ B) (S .free) (unmark e (q .held)) S F D size held (subst (Times now) held times) kids in
       let l : e .target < n = t o (middle-in A o B) in
-      let part-is = part-kept n c (state-frame (stationRow n (e .target) + 32) b ys) (omega arith) ∙ part-kept n c F (omega arith) in
+      let part-is = part-kept n c (written-only (stateOf n (e .target)) b ys) (omega arith) ∙ part-kept n c F (omega arith) in
       let U =
       untold (unmark e (q .held)) (H .calendar) part-is (subst (Inside n) held (stands-inside D)) (e .target) (unmark-elsewhere e (q .held)) in
       record {

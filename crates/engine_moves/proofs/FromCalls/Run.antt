@@ -22,7 +22,8 @@ use Rattle.engine_records.proofs.Fits.{state-fits}
 use Rattle.engine_index.specs.Layout.{slotOf}
 use Rattle.engine_index.specs.Promises.{Spares, Marks}
 use Rattle.engine_index.specs.Represents.{Cell, cell}
-use Rattle.engine_index.proofs.Slots.SlotBytes.{state-frame}
+use Rattle.engine_rows.proofs.Rows.{stateOf}
+use Rattle.engine_index.proofs.CellFrames.{OnlyAt, written-only}
 use Rattle.engine_events.specs.Represents.{Has, nonzero, Nodes}
 use Rattle.engine_events.specs.Promises.{AfterHeader}
 use Rattle.engine_moves.specs.Promises.{HoldsAmong, RunsEvent}
@@ -59,8 +60,8 @@ module _ (n c x : ℕ) (after : State) (first second : ℕ) where
       sent2 : Frame (slotRow n i + 56 + 2 * 1) 2 us bs
       sent2 = rw eb (store-frame 2 (slotRow n i + 56 + 2 * 1) second us)
 
-      set : Frame (stationRow n (e .target) + 32) 20 ys ds
-      set = rw ed (state-frame (stationRow n (e .target) + 32) after ys)
+      set : OnlyAt (stateOf n (e .target)) ys ds
+      set = rw ed (written-only (stateOf n (e .target)) after ys)
 
       noted : bs ≡ notedIn n x first second xs
       noted = eb ∙ rw (ea, ei)

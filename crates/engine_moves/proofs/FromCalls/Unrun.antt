@@ -13,7 +13,6 @@ use Rattle.line.specs.declared.State.{State}
 use Rattle.line.specs.Station.{Plan, update}
 use Rattle.rules.specs.Held.{ran, Queue, unmark}
 use Rattle.rules.specs.Undo.{NoneLater}
-use Rattle.rings.specs.Table.{Frame}
 use Rattle.engine_rows.specs.Layout.{stationRow, slotRow}
 use Rattle.entry.specs.Entry.{eventAt}
 use Rattle.engine_records.specs.Records.{stateAt, putState}
@@ -23,7 +22,8 @@ use Rattle.engine_records.proofs.Fits.{state-fits}
 use Rattle.engine_index.specs.Layout.{slotOf, IsSlot, slotFound}
 use Rattle.engine_index.specs.Promises.{Spares, Sets, Unmarks}
 use Rattle.engine_index.specs.Represents.{Cell, cell, statusAt}
-use Rattle.engine_index.proofs.Slots.SlotBytes.{state-frame}
+use Rattle.engine_rows.proofs.Rows.{stateOf}
+use Rattle.engine_index.proofs.CellFrames.{OnlyAt, written-only}
 use Rattle.engine_index.proofs.Places.FoundSlot.{finds}
 use Rattle.engine_events.specs.Represents.{fitsIn, Has, Stores}
 use Rattle.engine_moves.specs.RunCount.{runsBelow}
@@ -68,8 +68,8 @@ module _ (n c x : ℕ) where
       s : IsSlot n c (length xs) x × (i ≡ slotOf n x)
       s = finds ei .sound found
 
-      set : Frame (stationRow n (e .target) + 32) 20 ys us
-      set = rw ea (state-frame (stationRow n (e .target) + 32) b ys)
+      set : OnlyAt (stateOf n (e .target)) ys us
+      set = rw ea (written-only (stateOf n (e .target)) b ys)
 
       status : (j : ℕ) → j < c → loadAt 2 (slotRow n j + 60) zs ≡ loadAt 2 (slotRow n j + 60) ys
       status j h = told-status n c T j h ∙ set .loads 2 (slotRow n j + 60) (inl (omega arith))
