@@ -9,12 +9,13 @@ use lib.ListN.{length, getD}
 use Rattle.words.proofs.Laws.{load-lt}
 use Rattle.line.specs.declared.Config.{Config}
 use Rattle.line.specs.declared.State.{State}
-use Rattle.line.specs.Station.{initial}
+use Rattle.line.specs.Station.{firstState, initial}
+use Rattle.line.proofs.SendFits.{first-fits}
 use Rattle.plan_format.specs.Plan as plan
 use Rattle.plan_format.specs.Plan.{offsetOf, stationAt}
 use Rattle.engine_rows.specs.Layout.{stationRow, slotRow}
 use Rattle.engine_records.specs.Records.{stateAt, putState, storedConfig, putConfig}
-use Rattle.line.specs.Widths.{StateFits, ConfigFits}
+use Rattle.line.specs.Widths.{ConfigFits}
 use Rattle.engine_records.proofs.Cells.{length-write, read-written, read-beside}
 use Rattle.engine_rows.proofs.Rows.{configOf, stateOf, config-in, state-in, stations, row-other, station-room}
 use Rattle.engine_promises.specs.Represents.{lineOf}
@@ -31,13 +32,6 @@ begun-none bytes n xs = record { size = refl; configs = λ l t h. absurd (omega 
 
 pub begun-all : {bytes : List ℕ} {n s : ℕ} {xs ys : List ℕ} → n ≤ s → BegunTo bytes n s xs ys → StationsBegun bytes n xs ys
 begun-all h B = record { size = B .size; configs = λ l t k. B .configs l t (omega arith); states = λ l t k. B .states l t (omega arith) }
-
--- the first state of a station with such numbers
-abbrev pub firstOf : Config → State
-firstOf g = record { draw = g .seed; level = 0; heard = 0; lost = 0; sent = 0 }
-
-first-fits : (g : Config) → ConfigFits g → StateFits (firstOf g)
-first-fits g f = record { draw = f .seed; level = omega arith; heard = omega arith; lost = omega arith; sent = omega arith }
 
 config-is : (bytes : List ℕ) (s : ℕ) → plan.configAt bytes (offsetOf bytes s) ≡ lineOf bytes .config s
 unfolding lineOf stationAt
@@ -56,7 +50,7 @@ plan-fits bytes at low = record {
   seed = load-lt 4 (at + 22) bytes low;
 }
 
-first-is : (bytes : List ℕ) (s : ℕ) (g : Config) → g ≡ lineOf bytes .config s → firstOf g ≡ initial (lineOf bytes) s
+first-is : (bytes : List ℕ) (s : ℕ) (g : Config) → g ≡ lineOf bytes .config s → firstState g ≡ initial (lineOf bytes) s
 unfolding initial
 first-is bytes s g e = rw e
 
@@ -66,34 +60,34 @@ module _ {bytes : List ℕ} {n s : ℕ} {xs ys : List ℕ} (B : BegunTo bytes n 
   with-config = putConfig (stationRow n s) g ys
 
   abbrev with-both : List ℕ
-  with-both = putState (stationRow n s + 32) (firstOf g) with-config
+  with-both = putState (stationRow n s + 32) (firstState g) with-config
 
   size-config : length with-config ≡ length ys
   size-config = length-write (configOf n s) g ys
 
   config-old : (t : ℕ) → t ≢ s → storedConfig (stationRow n t) with-both ≡ storedConfig (stationRow n t) ys
   config-old t d =
-      row-other (state-in n s) (config-in n t) (stations n s t (λ q. d (sym q))) (firstOf g) with-config
+      row-other (state-in n s) (config-in n t) (stations n s t (λ q. d (sym q))) (firstState g) with-config
       ∙ row-other (config-in n s) (config-in n t) (stations n s t (λ q. d (sym q))) g ys
 
   state-old : (t : ℕ) → t ≢ s → stateAt (stationRow n t + 32) with-both ≡ stateAt (stationRow n t + 32) ys
   state-old t d =
-      row-other (state-in n s) (state-in n t) (stations n s t (λ q. d (sym q))) (firstOf g) with-config
+      row-other (state-in n s) (state-in n t) (stations n s t (λ q. d (sym q))) (firstState g) with-config
       ∙ row-other (config-in n s) (state-in n t) (stations n s t (λ q. d (sym q))) g ys
 
   config-new : slotRow n 0 ≤ length xs → storedConfig (stationRow n s) with-both ≡ g
   config-new h =
-      read-beside (stateOf n s) (configOf n s) (firstOf g) with-config (inr (omega arith))
+      read-beside (stateOf n s) (configOf n s) (firstState g) with-config (inr (omega arith))
       ∙ read-written (configOf n s) g ys (station-room n s (length ys) l (omega (arith, B .size)) (config-in n s)) fits
 
-  state-new : slotRow n 0 ≤ length xs → stateAt (stationRow n s + 32) with-both ≡ firstOf g
+  state-new : slotRow n 0 ≤ length xs → stateAt (stationRow n s + 32) with-both ≡ firstState g
   state-new h =
-      read-written (stateOf n s) (firstOf g) with-config (station-room n s (length with-config) l (omega (arith, B .size, size-config)) (state-in n s))
+      read-written (stateOf n s) (firstState g) with-config (station-room n s (length with-config) l (omega (arith, B .size, size-config)) (state-in n s))
       (first-fits g fits)
 
   begun-next : BegunTo bytes n (s + 1) xs with-both
   begun-next = record {
-    size = length-write (stateOf n s) (firstOf g) with-config ∙ size-config ∙ B .size;
+    size = length-write (stateOf n s) (firstState g) with-config ∙ size-config ∙ B .size;
     configs = λ h t k. config-at h t k (ℕ-discrete t s);
     states = λ h t k. state-at h t k (ℕ-discrete t s);
   }
@@ -107,9 +101,9 @@ module _ {bytes : List ℕ} {n s : ℕ} {xs ys : List ℕ} (B : BegunTo bytes n 
       state-at h t k (no d) = state-old t d ∙ B .states h t (omega arith)
 
 -- as the code writes them
-pub begun-on : {bytes : List ℕ} {n s : ℕ} {xs ys us zs : List ℕ} {g : Config} → BegunTo bytes n s xs ys → s < n → ((j : ℕ) → getD bytes j 0 < 256)
-    → g ≡ plan.configAt bytes (offsetOf bytes s) → us ≡ putConfig (stationRow n s) g ys → zs ≡ putState (stationRow n s + 32) (firstOf g) us
+pub begun-on : {bytes : List ℕ} {n s : ℕ} {xs ys us zs : List ℕ} {g : Config} {v : State} → BegunTo bytes n s xs ys → s < n → ((j : ℕ) → getD bytes j 0 < 256)
+    → g ≡ plan.configAt bytes (offsetOf bytes s) → us ≡ putConfig (stationRow n s) g ys → v ≡ firstState g → zs ≡ putState (stationRow n s + 32) v us
     → BegunTo bytes n (s + 1) xs zs
-begun-on {bytes} {n} {s} {g = g} B l low e p q =
+begun-on {bytes} {n} {s} {g = g} B l low e p f q =
     let fits : ConfigFits g = rw e (plan-fits bytes (offsetOf bytes s) low) in
-    rw (q, p) (begun-next B l g e fits)
+    rw (q, f, p) (begun-next B l g e fits)

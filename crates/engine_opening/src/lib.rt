@@ -7,7 +7,6 @@ ghost use Prim.Native.Nat.{_≤_};
 ghost use Rattle.engine_promises.specs.Promises.{Opens};
 ghost use Rattle.engine_opening.specs.Steps.{StationsBegun};
 use engine_answers::OpenAnswer;
-use line::State;
 use plan::ReadAnswer;
 use refusal::Refusal;
 
@@ -20,14 +19,7 @@ fn begin_stations(plan: &[u8], b: &mut [u8], n: u16)
     while s < n {
         let g = plan::config_at(plan, s);
         engine_rows::set_config(b, n, s, g);
-        let v = State {
-            draw: g.seed,
-            level: 0,
-            heard: 0,
-            lost: 0,
-            sent: 0,
-        };
-        engine_rows::set_state(b, n, s, v);
+        engine_rows::set_state(b, n, s, line::first_state(g));
         s += 1;
     }
 }

@@ -10,7 +10,7 @@ use Rattle.line.specs.declared.Config.{Config}
 use Rattle.line.specs.declared.Matter.{Matter}
 use Rattle.line.specs.declared.Matter.the-variants.{Read, Frame, Level}
 use Rattle.line.specs.declared.State.{State}
-use Rattle.line.specs.Station.{Outcome, send, silent, period, runRead, drawnState, lose, hear, repeat, pass, runFrame, runLevel, runMatter}
+use Rattle.line.specs.Station.{Outcome, send, silent, period, runRead, drawnState, lose, hear, repeat, pass, runFrame, setLevel, runLevel, runMatter}
 use Rattle.line.proofs.Either.{either}
 
 -- the states that running the matter m may leave
@@ -18,7 +18,7 @@ pub data MayLeave (st : State) : Matter → State → Type 0 where
   unchanged : MayLeave st Read st
   lost : {origin repeats : ℕ} → MayLeave st (Frame origin repeats) (lose (drawnState st))
   heard : {origin repeats : ℕ} → MayLeave st (Frame origin repeats) (hear (drawnState st))
-  level : {mm : ℕ} → MayLeave st (Level mm) (record { draw = st .draw; level = mm; heard = st .heard; lost = st .lost; sent = st .sent })
+  level : {mm : ℕ} → MayLeave st (Level mm) (setLevel mm st)
 
 -- what station s may send where it runs the matter m at time t: when, to which station, and with which matter
 pub data MaySend (c : Config) (s t : ℕ) (st : State) : Matter → ℕ → ℕ → Matter → Type 0 where

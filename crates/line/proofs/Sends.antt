@@ -13,7 +13,7 @@ use Rattle.line.specs.declared.Config.{Config}
 use Rattle.line.specs.declared.Event.{Event}
 use Rattle.line.specs.declared.Matter.{Matter}
 use Rattle.line.specs.declared.State.{State}
-use Rattle.line.specs.Station.{Plan, InRange, Outcome, send, silent, period, drawnState, lose, hear, runMatter, runAt, runEvent}
+use Rattle.line.specs.Station.{Plan, InRange, Outcome, countSend, send, silent, period, drawnState, lose, hear, runMatter, runAt, runEvent}
 use Rattle.line.specs.Order.{Differ, All}
 use Rattle.line.proofs.Either.{either}
 use Rattle.line.proofs.Order.{differ-number}
@@ -27,7 +27,7 @@ sending s u to m o = record { time = u; target = to; source = s; number = o .aft
 
 abbrev pub made : ℕ → ℕ → ℕ → Matter → Outcome → Outcome
 made s u to m o = record {
-  after = record { draw = o .after .draw; level = o .after .level; heard = o .after .heard; lost = o .after .lost; sent = suc (o .after .sent) };
+  after = countSend (o .after);
   sends = o .sends ++ (sending s u to m o ∷ []);
 }
 

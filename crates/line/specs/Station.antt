@@ -46,8 +46,11 @@ unfoldable pub update : States → ℕ → State → States
 update f s v = λ t. cond (eqb t s) v (f t)
 
 -- "draw (starts as the seed), level, heard, lost, sent (all start at 0)"
+abbrev pub firstState : Config → State
+firstState c = record { draw = c .seed; level = 0; heard = 0; lost = 0; sent = 0 }
+
 unfoldable pub initial : Plan → States
-initial p = λ s. record { draw = (p .config s) .seed; level = 0; heard = 0; lost = 0; sent = 0 }
+initial p = λ s. firstState (p .config s)
 
 -- ---- running an event
 
@@ -59,13 +62,17 @@ pub record Outcome : Type 0 where
 unfoldable pub silent : State → Outcome
 silent st = record { after = st; sends = [] }
 
+-- the state with one send more
+abbrev pub countSend : State → State
+countSend st = record { draw = st .draw; level = st .level; heard = st .heard; lost = st .lost; sent = suc (st .sent) }
+
 -- "Each send takes the number sent, then sent rises by 1. A send after H isn't made and takes no number."
 -- One more send of station s, at time t to the station `to`
 unfoldable pub send : ℕ → ℕ → ℕ → Matter → Outcome → Outcome
 send s t to m o =
     cond (leb t horizon)
     (record {
-      after = record { draw = o .after .draw; level = o .after .level; heard = o .after .heard; lost = o .after .lost; sent = suc (o .after .sent) };
+      after = countSend (o .after);
       sends = o .sends ++ (record { time = t; target = to; source = s; number = o .after .sent; matter = m } ∷ []);
     })
     o
@@ -107,8 +114,11 @@ runFrame c s t origin repeats st =
     (pass c s t origin (silent (hear (drawnState st))))
 
 -- "Level: level becomes the value."
+abbrev pub setLevel : ℕ → State → State
+setLevel mm st = record { draw = st .draw; level = mm; heard = st .heard; lost = st .lost; sent = st .sent }
+
 unfoldable pub runLevel : ℕ → State → Outcome
-runLevel mm st = silent (record { draw = st .draw; level = mm; heard = st .heard; lost = st .lost; sent = st .sent })
+runLevel mm st = silent (setLevel mm st)
 
 unfoldable pub runMatter : Config → ℕ → ℕ → Matter → State → Outcome
 runMatter c s t Read st = runRead c s t st

@@ -42,11 +42,8 @@ fn send(s: State, station: u16, time: u64, delay: u32, to: u16, m: Matter) -> Ra
     }
     Ran::Done(Effect {
         state: State {
-            draw: s.draw,
-            level: s.level,
-            heard: s.heard,
-            lost: s.lost,
             sent: s.sent + 1,
+            ..s
         },
         first: Sending::Sends(Event {
             time: time + delay as u64,
@@ -119,10 +116,8 @@ fn run_lost(
     }
     let lost = State {
         draw,
-        level: s.level,
-        heard: s.heard,
         lost: s.lost + 1,
-        sent: s.sent,
+        ..s
     };
     if repeats < 3 {
         send(
@@ -148,10 +143,8 @@ fn run_heard(c: Config, s: State, draw: u32, station: u16, time: u64, origin: u1
     }
     let heard = State {
         draw,
-        level: s.level,
         heard: s.heard + 1,
-        lost: s.lost,
-        sent: s.sent,
+        ..s
     };
     if station != 0 {
         send(
@@ -187,12 +180,6 @@ pub fn run_event(c: Config, s: State, e: Event) -> Ran
     match m {
         Matter::Read => run_read(c, s, e.target, e.time),
         Matter::Frame(origin, repeats) => run_frame(c, s, e.target, e.time, origin, repeats),
-        Matter::Level(mm) => silent(State {
-            draw: s.draw,
-            level: mm,
-            heard: s.heard,
-            lost: s.lost,
-            sent: s.sent,
-        }),
+        Matter::Level(mm) => silent(State { level: mm, ..s }),
     }
 }

@@ -137,13 +137,7 @@ fn config() -> Config {
 
 // The machine with its two posts.
 fn start() -> Machine {
-    let initial = State {
-        draw: 1,
-        level: 0,
-        heard: 0,
-        lost: 0,
-        sent: 0,
-    };
+    let first = line::first_state(config());
     let read = event(0, 0, Matter::Read);
     let empty = Waiting {
         events: [read; 16],
@@ -152,7 +146,7 @@ fn start() -> Machine {
     let one = with_event(empty, read);
     let two = with_event(one, event(500, 1, Matter::Level(5000)));
     Machine {
-        states: [initial; 2],
+        states: [first; 2],
         waiting: two,
     }
 }

@@ -14,12 +14,13 @@ abbrev μ-loop : tie.MeasureT-loop
 
 loop-again : tie.Need-loop-again Inv-loop μ-loop
 loop-again c =
-    let p = c .before .before .before .before .before .before in
+    let stated = c .before .before in
+    let p = stated .before .before .before .before .before in
     let t = p .before .before .before in
     let given = t .before .before .before .shared-slice-known .given in (
       omega arith,
       begun-on (t .before .loop .inv .1) (t .loop-test .taken) (λ j. omega (arith, given j)) (p .before .before .config-at .ensures)
-          (p .set-config .ensures) (c .before .before .set-state .ensures),
+          (p .set-config .ensures) (stated .before .first-state .ensures) (stated .set-state .ensures),
     )
 
 returns : tie.Need-returns Inv-loop μ-loop
@@ -32,6 +33,7 @@ begin-stations-spec =
     Inv-loop
     μ-loop
     (λ c. (omega arith, begun-none _ _ _))
+    (λ c κs. search needs)
     (λ c κs. search needs)
     (λ c κs. search needs)
     (λ c κs. search needs)
