@@ -37,6 +37,7 @@ def run_event(config, state, key, matter):
                 send(time + config["hop"], station, (2, value + 256))
         else:
             after["heard"] += 1
+            after["last"], after["reached"] = time, True
             if station > 0:
                 send(time + config["hop"], config["parent"], (2, value % 256))
     if kind == 3:
@@ -45,7 +46,7 @@ def run_event(config, state, key, matter):
 
 
 def initial(plan):
-    return [dict(draw=c["seed"], level=0, heard=0, lost=0, sent=0) for c in plan]
+    return [dict(draw=c["seed"], level=0, heard=0, lost=0, sent=0, last=0, reached=False) for c in plan]
 
 
 def machine(plan, posts, until):
@@ -228,7 +229,7 @@ def answer_text(answer):
         log = " ∷ ".join([f"at {k[0]} {k[1]} {k[2]} {k[3]} {matter_text(m)}" for k, m in events] + ["[]"])
         return f"Committed {len(events)} (entries ({log}) ++ zeros {room - 24 * len(events)})"
     if name == "Recorded":
-        return "Recorded (record { " + "; ".join(f"{k} = {v}" for k, v in words[0].items()) + " })"
+        return "Recorded (record { " + "; ".join(f"{k} = {str(v).lower()}" for k, v in words[0].items()) + " })"
     return " ".join([name, *map(str, words)])
 
 
@@ -249,6 +250,7 @@ def list_of(texts):
 
 HEAD = """-- Lists of calls with the answers that an independent program gave (tools/worked.py, which writes this file).
 use mathlib.Core.Path.{refl}
+use mathlib.Core.Bool.{true, false}
 use mathlib.Core.List.{List, [], _∷_, _++_}
 use Rattle.words.specs.Le.{bytesOf}
 use Rattle.refusal.specs.Tests.{orNext, judged}

@@ -117,6 +117,8 @@ within (state at) xs ys h =
       h 4 (at + 8) (omega arith) (omega arith),
       h 4 (at + 12) (omega arith) (omega arith),
       h 4 (at + 16) (omega arith) (omega arith),
+      h 8 (at + 20) (omega arith) (omega arith),
+      h 4 (at + 28) (omega arith) (omega arith),
     )
 within (config at) xs ys h =
     rw (

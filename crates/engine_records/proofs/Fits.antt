@@ -13,4 +13,4 @@ module _ (at : ℕ) (xs : List ℕ) (low : (j : ℕ) → getD xs j 0 < 256) wher
 
   pub state-fits : StateFits (stateAt at xs)
   unfolding stateAt
-  state-fits = record { draw = word at; level = word (at + 4); heard = word (at + 8); lost = word (at + 12); sent = word (at + 16) }
+  state-fits = record { draw = word at; level = word (at + 4); heard = word (at + 8); lost = word (at + 12); sent = word (at + 16); last = load-lt 8 (at + 20) xs low }

@@ -10,6 +10,8 @@ use Rattle.words.specs.Le.{loadAt, storeAt}
 use Rattle.words.proofs.Laws.{Apart, length-store, load-other, load-stored}
 use Rattle.line.specs.declared.State.{State}
 use Rattle.line.specs.declared.Config.{Config}
+use Rattle.line.specs.Flag.{flagOf}
+use Rattle.line.proofs.Flag.{flag-low, flag-back}
 use Rattle.engine_records.specs.Records.{stateBytes, configBytes, stateAt, putState, storedConfig, putConfig}
 use Rattle.line.specs.Widths.{StateFits, ConfigFits}
 use Rattle.words.proofs.Run.{Run, puts, size, Fit, Reads, length-puts, puts-beside, puts-back}
@@ -17,7 +19,7 @@ use Rattle.words.proofs.Run.{Run, puts, size, Fit, Reads, length-puts, puts-bes
 -- ---- a record as a run of numbers
 
 abbrev stateRun : State → Run
-stateRun s = (4, s .draw) ∷ (4, s .level) ∷ (4, s .heard) ∷ (4, s .lost) ∷ (4, s .sent) ∷ []
+stateRun s = (4, s .draw) ∷ (4, s .level) ∷ (4, s .heard) ∷ (4, s .lost) ∷ (4, s .sent) ∷ (8, s .last) ∷ (4, flagOf (s .reached)) ∷ []
 
 state-run : (at : ℕ) (s : State) (xs : List ℕ) → putState at s xs ≡ puts at 0 (stateRun s) xs
 unfolding putState puts
@@ -57,9 +59,10 @@ config-beside at c xs m j (inr h) =
 pub state-back : (at : ℕ) (s : State) (xs : List ℕ) → at + stateBytes ≤ length xs → StateFits s → stateAt at (putState at s xs) ≡ s
 unfolding stateAt size Fit Reads
 state-back at s xs h f =
-    let fit : Fit (stateRun s) = (f .draw, (f .level, (f .heard, (f .lost, (f .sent, tt))))) in
+    let fit : Fit (stateRun s) = (f .draw, (f .level, (f .heard, (f .lost, (f .sent, (f .last, (omega (arith, flag-low (s .reached)), tt))))))) in
     let r : Reads at 0 (stateRun s) (putState at s xs) = rw state-run (puts-back at 0 (stateRun s) xs (rw add-zero h) fit) in
-    rw (rw add-zero at (r .0), r .1 .0, r .1 .1 .0, r .1 .1 .1 .0, r .1 .1 .1 .1 .0)
+    let t = r .1 .1 .1 .1 in
+    rw (rw add-zero at (r .0), r .1 .0, r .1 .1 .0, r .1 .1 .1 .0, t .0, t .1 .0, t .1 .1 .0, flag-back (s .reached))
 
 pub config-back : (at : ℕ) (c : Config) (xs : List ℕ) → at + configBytes ≤ length xs → ConfigFits c → storedConfig at (putConfig at c xs) ≡ c
 unfolding storedConfig size Fit Reads

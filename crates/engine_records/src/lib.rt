@@ -1,4 +1,8 @@
 // A state and a station's numbers as bytes, at any byte of a lent buffer.
+//
+// A state takes 32 bytes, little-endian: draw, level, heard, lost and sent of 4 each, from byte 20 on the time of the last frame heard, of 8, and from
+// byte 28 on whether there has been one, of 4: 1 for yes, 0 for no. A station's numbers take 28: the parent of 2, two that are free, then calm, spring,
+// threshold, hop, noise and seed of 4 each.
 
 ghost use mathlib.Core.Path.{_≡_};
 ghost use Rattle.engine_records.specs.Records.{stateAt, putState, storedConfig, putConfig};
@@ -15,6 +19,8 @@ pub fn read_state(b: &[u8], at: u32) -> State
         heard: words::load32(b, from + 8),
         lost: words::load32(b, from + 12),
         sent: words::load32(b, from + 16),
+        last: words::load64(b, from + 20),
+        reached: words::load32(b, from + 28) != 0,
     }
 }
 
@@ -27,6 +33,8 @@ pub fn write_state(b: &mut [u8], at: u32, s: State)
     words::store32(b, from + 8, s.heard);
     words::store32(b, from + 12, s.lost);
     words::store32(b, from + 16, s.sent);
+    words::store64(b, from + 20, s.last);
+    words::store32(b, from + 28, s.reached as u32);
 }
 
 // A station's numbers of the plan.

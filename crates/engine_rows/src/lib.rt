@@ -1,9 +1,12 @@
 // The engine's header, stations and slots in its lent buffer, each record by itself. Nothing here knows what they mean to each other.
 //
 // Layout, little-endian. Header: eight words of 64 bits. From byte 64 on a row of 128 bytes for each station: its numbers of the plan in the first 28
-// bytes, its state from byte 32 on. Then a row of 64 bytes for each slot: the event in the 24 bytes that a commit writes, from byte 24 on the state from
-// before it (its checkpoint), from byte 56 on four numbers of 16 bits: the slots of its sends, its status, and one that is free. After the slots stand the
-// links (crate engine_index), and after those the calendar's part (crate engine_events).
+// bytes, its state in the 32 from byte 32 on. Then a row of 64 bytes for each slot: the event in the 24 bytes that a commit writes, in the 32 from byte 24
+// on the state from before it (its checkpoint), from byte 56 on four numbers of 16 bits: the slots of its sends, its status, and one that is free. What the
+// bytes of a state are says crate engine_records. After the slots stand the links (crate engine_index), and after those the calendar's part (crate
+// engine_events).
+//
+// So a station takes 208 of the 256 bytes that number 7 counts for it: 128 in its row, 16 of links, 64 in the calendar's part.
 
 ghost use mathlib.Core.Path.{_≡_};
 ghost use Prim.Native.Nat.{_+_, _≤_, _<_};

@@ -3,6 +3,7 @@ use mathlib.Core.List.{List}
 use Prim.Native.Nat.{ℕ}
 use lib.ListN.{set}
 use Rattle.refusal.specs.Numbers.{numberOf, stationsOf}
+use Rattle.line.specs.Flag.{flagOf}
 use Rattle.engine_answers.specs.declared.OpenAnswer.{OpenAnswer}
 use Rattle.engine_answers.specs.declared.OpenAnswer.the-variants as O
 use Rattle.engine_answers.specs.declared.PostAnswer.{PostAnswer}
@@ -66,5 +67,6 @@ commitValues (C.Done count) old = set old 0 count
 commitValues (C.Refused e) old = old
 
 abbrev pub recordValues : RecordAnswer → List ℕ → List ℕ
-recordValues (D.Done s) old = set (set (set (set (set old 0 (s .draw)) 1 (s .level)) 2 (s .heard)) 3 (s .lost)) 4 (s .sent)
+recordValues (D.Done s) old =
+    set (set (set (set (set (set (set old 0 (s .draw)) 1 (s .level)) 2 (s .heard)) 3 (s .lost)) 4 (s .sent)) 5 (s .last)) 6 (flagOf (s .reached))
 recordValues (D.Refused e) old = old

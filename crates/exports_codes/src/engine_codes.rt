@@ -72,7 +72,7 @@ pub fn tell_commit(a: CommitAnswer, at: &mut [u64; 2]) -> u64
     }
 }
 
-pub fn tell_record(a: RecordAnswer, at: &mut [u64; 5]) -> u64
+pub fn tell_record(a: RecordAnswer, at: &mut [u64; 7]) -> u64
     ensures { λ r. ⌜ (r ≡ recordCode a) × (now (at .exit) ≡ recordValues a (now (at .entry))) ⌝ }
 {
     match a {
@@ -82,6 +82,8 @@ pub fn tell_record(a: RecordAnswer, at: &mut [u64; 5]) -> u64
             at[2] = s.heard as u64;
             at[3] = s.lost as u64;
             at[4] = s.sent as u64;
+            at[5] = s.last;
+            at[6] = s.reached as u64;
             0
         }
         RecordAnswer::Refused(e) => refusal::number(e),

@@ -8,3 +8,4 @@ pub mod Sends
 pub mod SendFits
 pub mod Unsuited
 pub mod Suits
+pub mod Flag

@@ -13,12 +13,12 @@ use Rattle.line.specs.declared.State.{State}
 use Rattle.line.specs.Station.{Outcome, send, silent, period, runRead, drawnState, lose, hear, repeat, pass, runFrame, setLevel, runLevel, runMatter}
 use Rattle.line.proofs.Either.{either}
 
--- the states that running the matter m may leave
-pub data MayLeave (st : State) : Matter → State → Type 0 where
-  unchanged : MayLeave st Read st
-  lost : {origin repeats : ℕ} → MayLeave st (Frame origin repeats) (lose (drawnState st))
-  heard : {origin repeats : ℕ} → MayLeave st (Frame origin repeats) (hear (drawnState st))
-  level : {mm : ℕ} → MayLeave st (Level mm) (setLevel mm st)
+-- the states that running the matter m at time t may leave
+pub data MayLeave (t : ℕ) (st : State) : Matter → State → Type 0 where
+  unchanged : MayLeave t st Read st
+  lost : {origin repeats : ℕ} → MayLeave t st (Frame origin repeats) (lose (drawnState st))
+  heard : {origin repeats : ℕ} → MayLeave t st (Frame origin repeats) (hear t (drawnState st))
+  level : {mm : ℕ} → MayLeave t st (Level mm) (setLevel mm st)
 
 -- what station s may send where it runs the matter m at time t: when, to which station, and with which matter
 pub data MaySend (c : Config) (s t : ℕ) (st : State) : Matter → ℕ → ℕ → Matter → Type 0 where
@@ -30,9 +30,9 @@ pub data MaySend (c : Config) (s t : ℕ) (st : State) : Matter → ℕ → ℕ 
 module _ (c : Config) (s t : ℕ) (st : State) (m : Matter) where
   -- the outcomes that running it may have
   pub data Possible : Outcome → Type 0 where
-    none : {v : State} → MayLeave st m v → Possible (silent v)
-    one : {v : State} {u to : ℕ} {k : Matter} → MayLeave st m v → MaySend c s t st m u to k → Possible (send s u to k (silent v))
-    two : {v : State} {u to u′ to′ : ℕ} {k k′ : Matter} → MayLeave st m v → MaySend c s t st m u to k → MaySend c s t st m u′ to′ k′
+    none : {v : State} → MayLeave t st m v → Possible (silent v)
+    one : {v : State} {u to : ℕ} {k : Matter} → MayLeave t st m v → MaySend c s t st m u to k → Possible (send s u to k (silent v))
+    two : {v : State} {u to u′ to′ : ℕ} {k k′ : Matter} → MayLeave t st m v → MaySend c s t st m u to k → MaySend c s t st m u′ to′ k′
         → Possible (send s u′ to′ k′ (send s u to k (silent v)))
 
 pub possible : (c : Config) (s t : ℕ) (st : State) (m : Matter) → Possible c s t st m (runMatter c s t m st)
@@ -50,7 +50,7 @@ possible c s t st (Level mm) = none level
 
 -- what holds of every state that may be left, and is kept by every send that may be made, holds of the outcome
 pub by-outcome : (P : Outcome → Type 0) (c : Config) (s t : ℕ) (st : State) (m : Matter)
-    → ((v : State) → MayLeave st m v → P (silent v))
+    → ((v : State) → MayLeave t st m v → P (silent v))
     → ((u to : ℕ) (k : Matter) (o : Outcome) → MaySend c s t st m u to k → P o → P (send s u to k o))
     → P (runMatter c s t m st)
 by-outcome P c s t st m f g = go (possible c s t st m)

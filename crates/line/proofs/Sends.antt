@@ -81,7 +81,7 @@ module _ (n s t lo : ℕ) where
       go false e = g
 
 -- a state that is left has the number that the next send takes
-sent-kept : {st v : State} {m : Matter} → MayLeave st m v → v .sent ≡ st .sent
+sent-kept : {t : ℕ} {st v : State} {m : Matter} → MayLeave t st m v → v .sent ≡ st .sent
 unfolding lose hear drawnState
 sent-kept unchanged = refl
 sent-kept lost = refl

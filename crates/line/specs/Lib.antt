@@ -4,3 +4,4 @@ pub mod Matter
 pub mod Station
 pub mod Answer
 pub mod Widths
+pub mod Flag

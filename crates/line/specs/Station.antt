@@ -1,8 +1,8 @@
--- Stations, their state, and what running an event does (document 01, "Plan of a line" and "Events and stations"; document 02, change 2). A station's numbers and its
--- state are the declared Config and State of src/.
+-- Stations, their state, and what running an event does (document 01, "Plan of a line" and "Events and stations"; document 02, changes 2 and 7). A station's numbers and
+-- its state are the declared Config and State of src/.
 use Prim.Native.Nat.{ℕ, zero, suc, _+_, _≤_, _<_}
 use mathlib.Core.Path.{_≡_}
-use mathlib.Core.Bool.{Bool, false, cond, not, _||_}
+use mathlib.Core.Bool.{Bool, true, false, cond, not, _||_}
 use mathlib.Core.List.{List, [], _∷_, _++_}
 use lib.Dec.{ltb, leb, eqb}
 use Rattle.generator.specs.Draw.{nextDraw}
@@ -45,9 +45,10 @@ States = ℕ → State
 unfoldable pub update : States → ℕ → State → States
 update f s v = λ t. cond (eqb t s) v (f t)
 
--- "draw (starts as the seed), level, heard, lost, sent (all start at 0)"
+-- "draw (starts as the seed), level, heard, lost, sent (all start at 0)". "The station state gains the time of the last frame heard, and a yes or no for
+-- whether there has been one. Both start at 0 and no." (document 02, change 7)
 abbrev pub firstState : Config → State
-firstState c = record { draw = c .seed; level = 0; heard = 0; lost = 0; sent = 0 }
+firstState c = record { draw = c .seed; level = 0; heard = 0; lost = 0; sent = 0; last = 0; reached = false }
 
 unfoldable pub initial : Plan → States
 initial p = λ s. firstState (p .config s)
@@ -64,7 +65,7 @@ silent st = record { after = st; sends = [] }
 
 -- the state with one send more
 abbrev pub countSend : State → State
-countSend st = record { draw = st .draw; level = st .level; heard = st .heard; lost = st .lost; sent = suc (st .sent) }
+countSend st = record { draw = st .draw; level = st .level; heard = st .heard; lost = st .lost; sent = suc (st .sent); last = st .last; reached = st .reached }
 
 -- "Each send takes the number sent, then sent rises by 1. A send after H isn't made and takes no number."
 -- One more send of station s, at time t to the station `to`
@@ -86,15 +87,15 @@ period c st = cond (leb (c .threshold) (st .level)) (c .spring) (c .calm)
 unfoldable pub runRead : Config → ℕ → ℕ → State → Outcome
 runRead c s t st = cond (eqb s 0) (silent st) (send s (t + c .hop) (c .parent) (Frame s 0) (send s (t + period c st) s Read (silent st)))
 
--- the state with a new draw; with one frame more lost; with one frame more heard
+-- the state with a new draw; with one frame more lost; with one frame more heard, at time t
 unfoldable pub drawnState : State → State
-drawnState st = record { draw = nextDraw (st .draw); level = st .level; heard = st .heard; lost = st .lost; sent = st .sent }
+drawnState st = record { draw = nextDraw (st .draw); level = st .level; heard = st .heard; lost = st .lost; sent = st .sent; last = st .last; reached = st .reached }
 
 unfoldable pub lose : State → State
-lose st = record { draw = st .draw; level = st .level; heard = st .heard; lost = suc (st .lost); sent = st .sent }
+lose st = record { draw = st .draw; level = st .level; heard = st .heard; lost = suc (st .lost); sent = st .sent; last = st .last; reached = st .reached }
 
-unfoldable pub hear : State → State
-hear st = record { draw = st .draw; level = st .level; heard = suc (st .heard); lost = st .lost; sent = st .sent }
+unfoldable pub hear : ℕ → State → State
+hear t st = record { draw = st .draw; level = st .level; heard = suc (st .heard); lost = st .lost; sent = st .sent; last = t; reached = true }
 
 -- ".. and the same frame goes to the station itself at t + hop delay", with one repeat more. "A loss at 3 raises lost and sends nothing." (document 02,
 -- change 2)
@@ -111,11 +112,11 @@ unfoldable pub runFrame : Config → ℕ → ℕ → ℕ → ℕ → State → O
 runFrame c s t origin repeats st =
     cond (leb (nextDraw (st .draw)) (c .noise))
     (repeat c s t origin repeats (silent (lose (drawnState st))))
-    (pass c s t origin (silent (hear (drawnState st))))
+    (pass c s t origin (silent (hear t (drawnState st))))
 
 -- "Level: level becomes the value."
 abbrev pub setLevel : ℕ → State → State
-setLevel mm st = record { draw = st .draw; level = mm; heard = st .heard; lost = st .lost; sent = st .sent }
+setLevel mm st = record { draw = st .draw; level = mm; heard = st .heard; lost = st .lost; sent = st .sent; last = st .last; reached = st .reached }
 
 unfoldable pub runLevel : ℕ → State → Outcome
 runLevel mm st = silent (setLevel mm st)

@@ -25,6 +25,7 @@ pub record StateFits (s : State) : Type 0 where
   pub heard : s .heard < 2 ^ 32
   pub lost : s .lost < 2 ^ 32
   pub sent : s .sent < 2 ^ 32
+  pub last : s .last < 2 ^ 64
 
 pub record ConfigFits (c : Config) : Type 0 where
   pub parent : c .parent < 2 ^ 16

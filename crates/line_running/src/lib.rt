@@ -136,7 +136,7 @@ fn run_lost(
 // A frame that was heard goes to the parent, but at station 0, with no repeats made.
 fn run_heard(c: Config, s: State, draw: u32, station: u16, time: u64, origin: u16) -> Ran
     requires { ⌜ draw ≡ nextDraw (s .draw) ⌝ }
-    ensures { λ r. ⌜ said r ≡ counted (pass c station time origin (silentOf (hear (drawnState s)))) ⌝ }
+    ensures { λ r. ⌜ said r ≡ counted (pass c station time origin (silentOf (hear time (drawnState s)))) ⌝ }
 {
     if s.heard == 4294967295 {
         return Ran::Over;
@@ -144,6 +144,8 @@ fn run_heard(c: Config, s: State, draw: u32, station: u16, time: u64, origin: u1
     let heard = State {
         draw,
         heard: s.heard + 1,
+        last: time,
+        reached: true,
         ..s
     };
     if station != 0 {

@@ -114,7 +114,9 @@ fn print_state(s: State) {
     number(s.level as u64);
     number(s.heard as u64);
     number(s.lost as u64);
-    last(s.sent as u64);
+    number(s.sent as u64);
+    number(s.last);
+    last(s.reached as u64);
 }
 
 struct Machine {

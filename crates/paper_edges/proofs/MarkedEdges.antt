@@ -44,7 +44,7 @@ lost-test c st n d = rw (n, d, after-1)
 heard : (c : Config) (st : State) → c .noise ≡ 16806 → st .draw ≡ 1 → (s t origin repeats : ℕ)
     → (runFrame c s t origin repeats st .after .heard ≡ suc (st .heard)) × (runFrame c s t origin repeats st .after .lost ≡ st .lost)
 unfolding runFrame silent hear drawnState
-heard c st n d s t origin repeats = rw (heard-test c st n d) (pass-counts c s t origin (silent (hear (drawnState st))))
+heard c st n d s t origin repeats = rw (heard-test c st n d) (pass-counts c s t origin (silent (hear t (drawnState st))))
 
 lost : (c : Config) (st : State) → c .noise ≡ 16807 → st .draw ≡ 1 → (s t origin repeats : ℕ)
     → (runFrame c s t origin repeats st .after .heard ≡ st .heard) × (runFrame c s t origin repeats st .after .lost ≡ suc (st .lost))

@@ -26,10 +26,10 @@ pub plan : List Config
 plan = station ∷ station ∷ []
 
 -- "post 1 0 1 0 / run / run / run / post 1 500 3 5000 / run / run / commit 1001"
-pub calls : List Call
+unfoldable pub calls : List Call
 calls = Post 1 0 1 0 ∷ RunLowest ∷ RunLowest ∷ RunLowest ∷ Post 1 500 3 5000 ∷ RunLowest ∷ RunLowest ∷ Commit 1001 (zeros 1536) ∷ []
 
-pub answers : List Answer
+unfoldable pub answers : List Answer
 answers =
     Posted 0 0 ∷ Ran 1 0 ∷ Ran 0 0 ∷ Ran 1 0 ∷ Posted 1 1 ∷ Ran 1 0 ∷ Ran 1 0
     ∷ Committed 4 (entries (at 0 1 posted 0 Read ∷ at 30 0 1 1 (Frame 1 0) ∷ at 500 1 posted 1 (Level 5000) ∷ at 1000 1 1 0 Read ∷ []) ++ zeros 1440) ∷ []

@@ -1,3 +1,4 @@
 pub mod Check
 pub mod Bench
+pub mod LastFrame
 pub mod Lists

@@ -1,5 +1,6 @@
 -- Lists of calls with the answers that an independent program gave (tools/worked.py, which writes this file).
 use mathlib.Core.Path.{refl}
+use mathlib.Core.Bool.{true, false}
 use mathlib.Core.List.{List, [], _∷_, _++_}
 use Rattle.words.specs.Le.{bytesOf}
 use Rattle.refusal.specs.Tests.{orNext, judged}
@@ -153,7 +154,7 @@ answers-1 =
     ∷ Refused 17
     ∷ Refused 18
     ∷ Refused 17
-    ∷ Recorded (record { draw = 467263970; level = 0; heard = 1; lost = 4; sent = 3 })
+    ∷ Recorded (record { draw = 467263970; level = 0; heard = 1; lost = 4; sent = 3; last = 44; reached = true })
     ∷ Refused 15
     ∷ Refused 13
     ∷ Refused 14
@@ -267,7 +268,7 @@ calls-2 =
 answers-2 : List Answer
 answers-2 =
     Posted 0 0
-    ∷ Recorded (record { draw = 61726799; level = 0; heard = 0; lost = 0; sent = 0 })
+    ∷ Recorded (record { draw = 61726799; level = 0; heard = 0; lost = 0; sent = 0; last = 0; reached = false })
     ∷ Ran 2 0
     ∷ Committed 1 (entries (at 76 2 65535 0 Read ∷ []) ++ zeros 216)
     ∷ Ran 1 0
@@ -294,9 +295,9 @@ answers-2 =
     ∷ Ran 1 0
     ∷ Ran 1 0
     ∷ Refused 9
-    ∷ Recorded (record { draw = 61726799; level = 0; heard = 0; lost = 0; sent = 0 })
+    ∷ Recorded (record { draw = 61726799; level = 0; heard = 0; lost = 0; sent = 0; last = 0; reached = false })
     ∷ Ran 1 0
-    ∷ Recorded (record { draw = 721513029; level = 0; heard = 0; lost = 0; sent = 0 })
+    ∷ Recorded (record { draw = 721513029; level = 0; heard = 0; lost = 0; sent = 0; last = 0; reached = false })
     ∷ Ran 0 0
     ∷ Ran 1 0
     ∷ Ran 2 0
@@ -310,7 +311,7 @@ answers-2 =
     ∷ Posted 4 3
     ∷ Ran 0 0
     ∷ Ran 2 0
-    ∷ Recorded (record { draw = 61726799; level = 0; heard = 0; lost = 0; sent = 0 })
+    ∷ Recorded (record { draw = 61726799; level = 0; heard = 0; lost = 0; sent = 0; last = 0; reached = false })
     ∷ Ran 0 0
     ∷ Ran 1 0
     ∷ Ran 2 0
