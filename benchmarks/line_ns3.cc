@@ -22,6 +22,8 @@ struct Numbers {
 struct State {
     uint64_t draw;
     uint32_t level, heard, lost, sent;
+    uint64_t last;
+    bool reached;
 };
 
 static std::vector<Numbers> plan;
@@ -62,6 +64,8 @@ static void Run(uint32_t station, uint32_t source, uint32_t number, uint32_t kin
             if (value / 256 < 3) Send(c.hop, station, station, 2, value + 256);
         } else {
             s.heard++;
+            s.last = Simulator::Now().GetMilliSeconds();
+            s.reached = true;
             if (station > 0) Send(c.hop, c.parent, station, 2, value % 256);
         }
     } else if (kind == 3) {
@@ -77,7 +81,7 @@ int main(int argc, char **argv) {
     wanted = std::atoll(argv[5]);
     for (uint32_t s = 0; s < n; s++) {
         plan.push_back({uint16_t((s ? s - 1 : 0) / fan), 300000, 60000, 5000, 250 + s % 50, noise});
-        states.push_back({1000 + 7 * s, 0, 0, 0, 0});
+        states.push_back({1000 + 7 * s, 0, 0, 0, 0, 0, false});
     }
     for (uint32_t k = 0; k < readers; k++) Simulator::Schedule(MilliSeconds(uint64_t(k) * 300000 / readers), &Run, n - 1 - k, 65535u, k, 1u, 0u);
     output.reserve(24 * 100001);

@@ -20,6 +20,7 @@ level = [0] * STATIONS
 heard = [0] * STATIONS
 lost = [0] * STATIONS
 sent = [0] * STATIONS
+last = [None] * STATIONS
 log = []
 ran = 0
 
@@ -53,6 +54,7 @@ def run(station, source, number, kind, value):
                 send(HOP[station], station, station, 2, value + 256)
         else:
             heard[station] += 1
+            last[station] = int(now())
             if station > 0:
                 send(HOP[station], PARENT[station], station, 2, value % 256)
     elif kind == 3:

@@ -39,7 +39,8 @@ fn main() -> Result<(), Refusal> {
     let plan = Plan::write(&stations(), &mut bytes)?;
     let (entries, states) = hour(&plan)?;
     for (station, state) in (0..).zip(states) {
-        println!("{}: {} heard, {} lost, {} sent", String::from_utf8_lossy(plan.name(station)?), state.heard, state.lost, state.sent);
+        let last = state.last.map_or("never reached".into(), |time| format!("last reached at {time} ms"));
+        println!("{}: {} heard, {} lost, {} sent, {last}", String::from_utf8_lossy(plan.name(station)?), state.heard, state.lost, state.sent);
     }
     println!("{} events", entries.len());
     Ok(())

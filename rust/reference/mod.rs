@@ -25,6 +25,8 @@ pub struct State {
     pub heard: u64,
     pub lost: u64,
     pub sent: u64,
+    /// The time of the last frame heard.
+    pub last: Option<u64>,
 }
 
 /// Time, target, source, number: the event order.
@@ -150,7 +152,7 @@ pub fn write_plan(stations: &[(Config, Vec<u8>)], room: usize) -> Result<Vec<u8>
 }
 
 pub fn first_state(c: &Config) -> State {
-    State { draw: c.seed.into(), level: 0, heard: 0, lost: 0, sent: 0 }
+    State { draw: c.seed.into(), level: 0, heard: 0, lost: 0, sent: 0, last: None }
 }
 
 /// What running an event does: the state after it, and its sends in order.
@@ -182,6 +184,7 @@ pub fn run_event(c: &Config, state: State, key: Key, matter: Matter) -> (State, 
                 }
             } else {
                 after.heard += 1;
+                after.last = Some(time);
                 if station > 0 {
                     send(&mut after, time + c.hop as u64, c.parent.into(), (2, matter.1 % 256));
                 }

@@ -14,7 +14,7 @@ extern "C" {
     fn engine_run_station(b: *mut u8, len: usize, station: u64, at: *mut [u64; 2]) -> u64;
     fn engine_run_lowest(b: *mut u8, len: usize, at: *mut [u64; 2]) -> u64;
     fn engine_commit(b: *mut u8, len: usize, time: u64, out: *mut u8, out_len: usize, at: *mut [u64; 2]) -> u64;
-    fn engine_record(b: *const u8, len: usize, station: u64, at: *mut [u64; 5]) -> u64;
+    fn engine_record(b: *const u8, len: usize, station: u64, at: *mut [u64; 7]) -> u64;
     fn calendar_open(n: u64, width: u64, b: *mut u8, len: usize) -> u64;
     fn calendar_register(b: *mut u8, len: usize, station: u64, time: u64) -> u64;
     fn calendar_unregister(b: *mut u8, len: usize, station: u64) -> u64;
@@ -78,7 +78,7 @@ pub fn commit(b: &mut [u8], time: u64, out: &mut [u8]) -> Result<[u64; 2], Refus
     answer(|at| unsafe { engine_commit(b.as_mut_ptr(), b.len(), time, out.as_mut_ptr(), out.len(), at) })
 }
 
-pub fn record(b: &[u8], station: u64) -> Result<[u64; 5], Refusal> {
+pub fn record(b: &[u8], station: u64) -> Result<[u64; 7], Refusal> {
     answer(|at| unsafe { engine_record(b.as_ptr(), b.len(), station, at) })
 }
 

@@ -123,6 +123,8 @@ pub struct State {
     pub heard: u32,
     pub lost: u32,
     pub sent: u32,
+    /// The time of the last frame heard, if there has been one.
+    pub last: Option<u64>,
 }
 
 /// A committed event.
@@ -252,7 +254,8 @@ impl<'b> Engine<'b> {
 
     /// A station's state as of the commit time. Refusal: 9.
     pub fn record(&self, station: u64) -> Result<State, Refusal> {
-        let [draw, level, heard, lost, sent] = calls::record(self.bytes, station)?.map(|number| number as u32);
-        Ok(State { draw, level, heard, lost, sent })
+        let [numbers @ .., last, reached] = calls::record(self.bytes, station)?;
+        let [draw, level, heard, lost, sent] = numbers.map(|number| number as u32);
+        Ok(State { draw, level, heard, lost, sent, last: (reached != 0).then_some(last) })
     }
 }

@@ -36,7 +36,9 @@ fn an_hour_is_the_plain_machines() {
         heard: s.heard as u32,
         lost: s.lost as u32,
         sent: s.sent as u32,
+        last: s.last,
     };
     assert_eq!(states, machine.states.iter().map(as_state).collect::<Vec<_>>());
     assert!(states[0].heard > 0 && states[0].lost + states[1].lost > 0);
+    assert!(states[0].last > states[1].last && states[1].last.is_some() && states[2].last.is_none());
 }

@@ -4,7 +4,7 @@
 //!
 //! A case of plans is a drawn list of stations, written, and the plan damaged, read. A case of the engine is a drawn line and a drawn list of calls. Answers, logs and records are compared, and at the end the joined logs and the records with the plain
 //! machine. A difference prints the case's seed. `fuzz stack=64` runs the deepest rollback in a stack of so many KiB.
-use jambfennel::{Engine, Entry, Plan, Refusal, Station};
+use jambfennel::{Engine, Entry, Plan, Refusal, State, Station};
 
 #[path = "../../reference/mod.rs"]
 mod reference;
@@ -30,6 +30,10 @@ fn line(dice: &mut Dice) -> Vec<Config> {
 
 fn number<T>(r: Result<T, Refusal>) -> Result<T, u64> {
     r.map_err(|refusal| refusal.number)
+}
+
+fn state(s: State) -> reference::State {
+    reference::State { draw: s.draw.into(), level: s.level.into(), heard: s.heard.into(), lost: s.lost.into(), sent: s.sent.into(), last: s.last }
 }
 
 // One list of calls. The buffer stands between guard bytes.
@@ -114,9 +118,8 @@ fn compare(seed: u64) -> u64 {
                 }
             }
             _ => {
-                let a = number(engine.record(station)).map(|s| [s.draw, s.level, s.heard, s.lost, s.sent].map(u64::from));
-                let want = model.record(station).map(|s| [s.draw, s.level, s.heard, s.lost, s.sent]);
-                assert_eq!(a, want, "case {seed}, call {calls}: record {station}");
+                let a = number(engine.record(station)).map(state);
+                assert_eq!(a, model.record(station), "case {seed}, call {calls}: record {station}");
             }
         }
     }
@@ -129,9 +132,7 @@ fn compare(seed: u64) -> u64 {
     let suits = |entry: Entry| entry.matter().is_some() && reference::suits(n, (entry.kind.into(), entry.value.into()));
     assert!(logs.chunks_exact(24).all(|bytes| suits(Entry::of(bytes.try_into().unwrap()))), "case {seed}: a matter that 10 refuses is in the log");
     for s in 0..n {
-        let a = engine.record(s).map(|s| [s.draw, s.level, s.heard, s.lost, s.sent].map(u64::from)).unwrap();
-        let want = machine.states[s as usize];
-        assert_eq!(a, [want.draw, want.level, want.heard, want.lost, want.sent], "case {seed}: record {s}");
+        assert_eq!(state(engine.record(s).unwrap()), machine.states[s as usize], "case {seed}: record {s}");
     }
     assert!(guards == (all[..32].to_vec(), all[size + 32..].to_vec()), "case {seed}: a byte outside the buffer");
     calls
