@@ -6,7 +6,7 @@ use mathlib.Core.List.{List}
 use Prim.Native.Nat.{ℕ, _+_, _≤_}
 use native.Mathlib.Omega.{arith}
 use Rattle.rings.specs.Table.{Outside, Frame}
-use Rattle.engine_records.proofs.Cells.{Cell, place, width, Value, read, write, length-write, load-beside, within}
+use Rattle.engine_records.proofs.Cells.{Cell, place, width, Value, read, write, length-write, load-beside, read-same}
 use Rattle.engine_rows.proofs.Rows.{In}
 
 -- at most the cell changed
@@ -17,7 +17,7 @@ pub written-only : (c : Cell) (v : Value c) (xs : List ℕ) → OnlyAt c xs (wri
 written-only c v xs = record { size = length-write c v xs; loads = λ m j h. load-beside c v xs m j h }
 
 pub row-kept : {r w : ℕ} {c : Cell} {a l : ℕ} {xs ys : List ℕ} → In r w c → Frame a l xs ys → Outside a l r w → read c ys ≡ read c xs
-row-kept {r} {w} {c} {a} {l} {xs} {ys} I F o = within c xs ys (λ m j h k. F .loads m j (part m j h k o))
+row-kept {r} {w} {c} {a} {l} {xs} {ys} I F o = read-same c xs ys (λ m j h k. F .loads m j (part m j h k o))
   where
     part : (m j : ℕ) → place c ≤ j → j + m ≤ place c + width c → Outside a l r w → Outside a l j m
     part m j h k (inl p) = inl (omega (arith, I .from))

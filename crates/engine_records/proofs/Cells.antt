@@ -97,11 +97,11 @@ load-beside (state at) v xs m j a = state-beside at v xs m j a
 load-beside (config at) v xs m j a = config-beside at v xs m j a
 
 -- numbers that are as they were within a cell
-pub within : (c : Cell) (xs ys : List ℕ) → ((m j : ℕ) → place c ≤ j → j + m ≤ place c + width c → loadAt m j ys ≡ loadAt m j xs)
+pub read-same : (c : Cell) (xs ys : List ℕ) → ((m j : ℕ) → place c ≤ j → j + m ≤ place c + width c → loadAt m j ys ≡ loadAt m j xs)
     → read c ys ≡ read c xs
 unfolding eventAt stateAt storedConfig
-within (number m at) xs ys h = h m at (omega arith) (omega arith)
-within (event at) xs ys h =
+read-same (number m at) xs ys h = h m at (omega arith) (omega arith)
+read-same (event at) xs ys h =
     rw (
       h 8 at (omega arith) (omega arith),
       h 4 (at + 8) (omega arith) (omega arith),
@@ -110,7 +110,7 @@ within (event at) xs ys h =
       h 2 (at + 18) (omega arith) (omega arith),
       h 4 (at + 20) (omega arith) (omega arith),
     )
-within (state at) xs ys h =
+read-same (state at) xs ys h =
     rw (
       h 4 at (omega arith) (omega arith),
       h 4 (at + 4) (omega arith) (omega arith),
@@ -120,7 +120,7 @@ within (state at) xs ys h =
       h 8 (at + 20) (omega arith) (omega arith),
       h 4 (at + 28) (omega arith) (omega arith),
     )
-within (config at) xs ys h =
+read-same (config at) xs ys h =
     rw (
       h 2 at (omega arith) (omega arith),
       h 4 (at + 4) (omega arith) (omega arith),
@@ -133,7 +133,7 @@ within (config at) xs ys h =
 
 -- any cell
 pub read-beside : (c d : Cell) (v : Value c) (xs : List ℕ) → Beside c d → read d (write c v xs) ≡ read d xs
-read-beside c d v xs a = within d xs (write c v xs) (λ m j h l. load-beside c v xs m j (part m j a h l))
+read-beside c d v xs a = read-same d xs (write c v xs) (λ m j h l. load-beside c v xs m j (part m j a h l))
   where
     part : (m j : ℕ) → Beside c d → place d ≤ j → j + m ≤ place d + width d → Apart (place c) (width c) j m
     part m j (inl b) h l = inl (omega arith)

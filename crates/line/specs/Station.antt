@@ -45,8 +45,7 @@ States = ℕ → State
 unfoldable pub update : States → ℕ → State → States
 update f s v = λ t. cond (eqb t s) v (f t)
 
--- "draw (starts as the seed), level, heard, lost, sent (all start at 0)". "The station state gains the time of the last frame heard, and a yes or no for
--- whether there has been one. Both start at 0 and no." (document 02, change 7)
+-- "draw (starts as the seed), level, heard, lost, sent (all start at 0)". The last frame's two: "Both start at 0 and no." (document 02, change 7)
 abbrev pub firstState : Config → State
 firstState c = record { draw = c .seed; level = 0; heard = 0; lost = 0; sent = 0; last = 0; reached = false }
 
@@ -87,13 +86,14 @@ period c st = cond (leb (c .threshold) (st .level)) (c .spring) (c .calm)
 unfoldable pub runRead : Config → ℕ → ℕ → State → Outcome
 runRead c s t st = cond (eqb s 0) (silent st) (send s (t + c .hop) (c .parent) (Frame s 0) (send s (t + period c st) s Read (silent st)))
 
--- the state with a new draw; with one frame more lost; with one frame more heard, at time t
+-- the state with a new draw; with one frame more lost
 unfoldable pub drawnState : State → State
 drawnState st = record { draw = nextDraw (st .draw); level = st .level; heard = st .heard; lost = st .lost; sent = st .sent; last = st .last; reached = st .reached }
 
 unfoldable pub lose : State → State
 lose st = record { draw = st .draw; level = st .level; heard = st .heard; lost = suc (st .lost); sent = st .sent; last = st .last; reached = st .reached }
 
+-- with one frame more heard, at time t: "the time of the last frame heard, and a yes or no for whether there has been one" (document 02, change 7)
 unfoldable pub hear : ℕ → State → State
 hear t st = record { draw = st .draw; level = st .level; heard = suc (st .heard); lost = st .lost; sent = st .sent; last = t; reached = true }
 

@@ -19,7 +19,7 @@ use Rattle.engine_records.specs.Records.{stateAt, putState}
 use Rattle.line.specs.Widths.{EventFits, StateFits}
 use Rattle.entry.proofs.EntryLaws.{length-event, event-back}
 use Rattle.engine_records.proofs.RecordLaws.{length-state, state-back}
-use Rattle.engine_records.proofs.Cells.{number, event, state, read-beside, within}
+use Rattle.engine_records.proofs.Cells.{number, event, state, read-beside, read-same}
 use Rattle.engine_rows.proofs.Rows.{slots}
 use Rattle.engine_index.specs.Layout.{slotOf, linksAt}
 use Rattle.engine_index.specs.Represents.{statusAt, HeldAt}
@@ -48,10 +48,10 @@ pub record Kept (n i : ℕ) (xs ys : List ℕ) : Type 0 where
 
 module _ {xs ys : List ℕ} (n x : ℕ) (K : Kept n (slotOf n x) xs ys) where
   pub event-kept : eventAt (slotRow n (slotOf n x)) ys ≡ eventAt (slotRow n (slotOf n x)) xs
-  event-kept = within (event (slotRow n (slotOf n x))) xs ys (λ m j h k. K .loads m j (omega arith) (omega arith))
+  event-kept = read-same (event (slotRow n (slotOf n x))) xs ys (λ m j h k. K .loads m j (omega arith) (omega arith))
 
   pub state-kept : stateAt (slotRow n (slotOf n x) + 24) ys ≡ stateAt (slotRow n (slotOf n x) + 24) xs
-  state-kept = within (state (slotRow n (slotOf n x) + 24)) xs ys (λ m j h k. K .loads m j (omega arith) (omega arith))
+  state-kept = read-same (state (slotRow n (slotOf n x) + 24)) xs ys (λ m j h k. K .loads m j (omega arith) (omega arith))
 
   pub status-kept : statusAt n x ys ≡ statusAt n x xs
   status-kept = K .loads 2 (slotRow n (slotOf n x) + 60) (omega arith) (omega arith)
