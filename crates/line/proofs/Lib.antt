@@ -9,3 +9,4 @@ pub mod SendFits
 pub mod Unsuited
 pub mod Suits
 pub mod Flag
+pub mod LastFrame

@@ -5,3 +5,4 @@ pub mod Station
 pub mod Answer
 pub mod Widths
 pub mod Flag
+pub mod LastFrame

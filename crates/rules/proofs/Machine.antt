@@ -5,3 +5,4 @@ pub mod Feed
 pub mod Halts
 pub mod Plain
 pub mod Log
+pub mod States

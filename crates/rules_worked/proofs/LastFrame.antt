@@ -119,7 +119,7 @@ bench-gets =
 
 -- ---- what the rules give
 
-last-frames : Gives quiet 8 at-0 at-0-gets × Gives quiet 8 taken-back taken-back-gets × Gives quiet 8 late late-gets × Gives noisy 8 lost lost-gets
+lists : Gives quiet 8 at-0 at-0-gets × Gives quiet 8 taken-back taken-back-gets × Gives quiet 8 late late-gets × Gives noisy 8 lost lost-gets
     × Gives noisy 8 given-up given-up-gets × Gives quiet 8 on-the-way on-the-way-gets × Gives quiet 64 bench-calls bench-gets
 unfolding quiet noisy at-0 at-0-gets taken-back taken-back-gets late late-gets lost lost-gets given-up given-up-gets on-the-way on-the-way-gets
     bench-calls bench-gets bench.calls bench.answers allIn parentOut numberOut nth pairs zeros
@@ -128,7 +128,7 @@ unfolding quiet noisy at-0 at-0-gets taken-back taken-back-gets late late-gets l
     postOf with entry entries bytesOf checks orNext judged opened frameOf matterOf
     same delete place leastUnrun mark isRun undone heldPost noneUnrun unrunBefore logged kept recordOf
     decide lex before update initial send silent period runRead drawnState lose hear repeat pass runFrame runLevel runMatter runAt runEvent nextDraw
-last-frames = (
+lists = (
   computed quiet 8 at-0 at-0-gets (in-range quiet tt tt tt) refl,
   computed quiet 8 taken-back taken-back-gets (in-range quiet tt tt tt) refl,
   computed quiet 8 late late-gets (in-range quiet tt tt tt) refl,
