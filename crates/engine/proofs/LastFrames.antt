@@ -1,15 +1,22 @@
 -- The machine starts with states that say so, and runs events before the commit time alone.
+use mathlib.Core.List.{List}
+use Prim.Native.Nat.{ℕ}
 use Rattle.line.specs.LastFrame.{LastFrame}
 use Rattle.line.specs.Station.{initial}
-use Rattle.line.proofs.LastFrame.{first-says, run-says}
+use Rattle.line.proofs.LastFrame.{run-hears, first-says, run-says}
 use Rattle.rules.specs.Machine.{start}
-use Rattle.rules.specs.Demand.{lastCommit}
+use Rattle.rules.specs.Demand.{Made, lastCommit}
 use Rattle.rules.proofs.Machine.States.{states-all}
 use Rattle.engine_promises.specs.Represents.{lineOf}
+use Rattle.engine.specs.Session.{Whole}
 use Rattle.engine.specs.LastFrames.{LastFrames}
 
-pub last-frames : LastFrames
+each-record : (plan : List ℕ) (capacity : ℕ) (ms : List Made) (ys : List ℕ) (w : Whole plan capacity ms ys) (s : ℕ)
+    → LastFrame (lastCommit 0 ms) (w .demand .machine .states s)
 unfolding start initial
-last-frames plan capacity ms ys w =
+each-record plan capacity ms ys w =
     let c = lastCommit 0 ms in
     states-all (lineOf plan) (LastFrame c) (run-says c (lineOf plan)) (w .demand .comes) (λ s. first-says c (lineOf plan .config s))
+
+pub last-frames : LastFrames
+last-frames = record { events = run-hears; records = each-record }

@@ -1,5 +1,5 @@
--- Stations, their state, and what running an event does (document 01, "Plan of a line" and "Events and stations"; document 02, changes 2 and 7). A station's numbers and
--- its state are the declared Config and State of src/.
+-- Stations, their state, and what running an event does (document 01, "Plan of a line" and "Events and stations"; document 02, changes 2 and 7). A
+-- station's numbers and its state are the declared Config and State of src/.
 use Prim.Native.Nat.{ℕ, zero, suc, _+_, _≤_, _<_}
 use mathlib.Core.Path.{_≡_}
 use mathlib.Core.Bool.{Bool, true, false, cond, not, _||_}
