@@ -13,3 +13,4 @@ pub mod Fetching
 pub mod Opening
 pub mod Bits
 pub mod Calls
+pub mod OneName

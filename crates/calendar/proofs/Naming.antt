@@ -3,7 +3,7 @@ use mathlib.Core.Path.{_≡_, refl, sym, ap, _∙_, subst}
 use mathlib.Core.Bool.{Bool, true, false}
 use mathlib.Core.Option.{none, some}
 use mathlib.Core.List.{List}
-use Prim.Native.Nat.{ℕ, suc, _-_, _≤_, _<_}
+use Prim.Native.Nat.{ℕ, suc, _+_, _-_, _*_, _≤_, _<_}
 use native.Mathlib.Omega.{arith}
 use lib.Dec.{ltb}
 use lib.ListN.{getD}
@@ -11,6 +11,7 @@ use Rattle.refusal.specs.declared.Refusal.{Refusal}
 use Rattle.refusal.specs.declared.Refusal.the-variants.{Idle}
 use Rattle.refusal.specs.Numbers.{numberOf}
 use Rattle.refusal.specs.Tests.{accepted, refused, orNext, judged}
+use Rattle.refusal.proofs.CheckingOrder.{not-both}
 use Rattle.calendar_buckets.specs.Lists.{rankOf}
 use Rattle.calendar_buckets.specs.Table.{dueOf, Table}
 use Rattle.calendar_buckets.specs.Promises.{Kept, Gone}
@@ -41,10 +42,7 @@ refused-idle xs n e = go (noneRegistered (stateOf xs .times)) refl
   where
     go : (b : Bool) → noneRegistered (stateOf xs .times) ≡ b → b ≡ true
     go true q = refl
-    go false q = absurd (never (e ∙ sym (busy xs q)))
-      where
-        never : refused n ≡ accepted → ⊥
-        never z = let y : _≡_ {A = ℕ} 0 1 = cc in omega arith
+    go false q = absurd (not-both (sym (busy xs q)) (sym e))
 
 -- ---- lowest
 
@@ -84,12 +82,18 @@ module _ (xs : List ℕ) (h : ℕ) (F : Sound xs → FirstOf xs h) where
         has S = time-at xs S (h - 1) (omega arith) (λ z. dz (due-is ∙ z)) ∙ ap (λ (y : ℕ). some (y - 1)) (sym due-is)
 
         leads : Sound xs → LeastAt (stateOf xs .times) (h - 1) (d - 1)
-        leads S = record { has = has S; least = λ x u e. go S x u (time-of xs S x u e .1) (time-of xs S x u e .2) }
+        leads S = record {
+          has = has S;
+          least = λ x u e. omega (arith, ranked x u e, time-of xs S x u e .1);
+          first = λ x e. omega (arith, ranked x (d - 1) e);
+        }
           where
-            go : Sound xs → (x u : ℕ) → x < 256 → dueOf xs x ≡ suc u → d - 1 ≤ u
-            go S x u lx ex =
-                let k : rankOf (dueOf xs) (h - 1) ≤ rankOf (dueOf xs) x = F S .some (h - 1) front .2 x lx (λ z. absurd (omega arith)) in
-                omega (arith, due-is, rank-station (dueOf xs) (h - 1) (omega arith), rank-station (dueOf xs) x lx)
+            -- no registered station is before it by time and number
+            ranked : (x u : ℕ) → getD (stateOf xs .times) x none ≡ some u → (d - 1) * 256 + (h - 1) ≤ u * 256 + x
+            ranked x u e =
+                let k = time-of xs S x u e in
+                let r : rankOf (dueOf xs) (h - 1) ≤ rankOf (dueOf xs) x = F S .some (h - 1) front .2 x (k .1) (λ z. absurd (omega (arith, k .2))) in
+                omega (arith, due-is, k .2, rank-station (dueOf xs) (h - 1) (omega arith), rank-station (dueOf xs) x (k .1))
 
 -- ---- early
 

@@ -59,10 +59,11 @@ unregistered q s = withTime q s none
 abbrev pub lowestChecks : Calendar → List Check
 lowestChecks q = says 14 (noneRegistered (q .times)) ∷ []
 
--- "the least registered time and a station that has it; which of several is free"
+-- "the least registered time and a station that has it", "the lowest-numbered of these" (document 02, change 3)
 pub record LeastAt (ts : List (Option ℕ)) (s t : ℕ) : Type 0 where
   pub has : getD ts s none ≡ some t
   pub least : (x u : ℕ) → getD ts x none ≡ some u → t ≤ u
+  pub first : (x : ℕ) → getD ts x none ≡ some t → s ≤ x
 
 -- ---- advance the floor
 

@@ -1,10 +1,10 @@
 -- A list of calls on one buffer, each known by its promise alone, is a list of calls by the rules, and demand 3 holds of it.
-use mathlib.Core.Path.{_≡_, refl, sym, ap, _∙_}
+use mathlib.Core.Path.{_≡_, refl, ap, _∙_}
 use mathlib.Core.List.{List, _∷_}
 use Prim.Native.Nat.{ℕ, _<_}
-use native.Mathlib.Omega.{arith}
 use borrow.Author.Tests.{lt-leb}
-use Rattle.refusal.specs.Tests.{accepted, refused, orNext, judged}
+use Rattle.refusal.specs.Tests.{accepted, orNext, judged}
+use Rattle.refusal.proofs.CheckingOrder.{not-both}
 use Rattle.line.specs.Station.{Plan}
 use Rattle.rules.specs.Machine.{Machine}
 use Rattle.rules.specs.Held.{recordOf}
@@ -47,10 +47,7 @@ passes-station p e s h = rw (lt-leb (p .count) s h)
 
 record-said : {p : Plan} {e f : Engine} {s : ℕ} {a : Answer} → s < p .count → Answers p e (Record s) a f
     → a ≡ Recorded (recordOf (e .queue .states) s (e .queue .held))
-record-said {p} {e} {f} {s} h (refuse {n = n} j) =
-    let k : accepted ≡ refused n = sym (passes-station p e s h) ∙ j in
-    let z : _≡_ {A = ℕ} 0 1 = cc in
-    absurd (omega arith)
+record-said {p} {e} {f} {s} h (refuse j) = absurd (not-both (passes-station p e s h) j)
 record-said h (recorded j) = refl
 
 -- ---- the claim

@@ -53,10 +53,15 @@ registered-has {h = h} s t a e = shows-every a s ∙ at-time (registered h s) t 
 
 -- ---- what the calendar says
 
--- the station that it names is one of least registered time
+-- the station that it names is the lowest-numbered one of least registered time
 pub named-lowest : {n : ℕ} {ts : List (Option ℕ)} {h : List Held} {s t : ℕ} → Shows n ts h → LeastAt ts s t → Lowest h s
 named-lowest {s = s} {t = t} a l =
-    record { time = t; is = has-registered s t a (l .has); least = λ x u e. l .least x u (registered-has x u a e) }
+    record {
+      time = t;
+      is = has-registered s t a (l .has);
+      least = λ x u e. l .least x u (registered-has x u a e);
+      first = λ x e. l .first x (registered-has x t a e);
+    }
 
 pub named-time : {n : ℕ} {ts : List (Option ℕ)} {h : List Held} {s t : ℕ} (a : Shows n ts h) (l : LeastAt ts s t) → named-lowest a l .time ≡ t
 unfolding named-lowest

@@ -1,4 +1,4 @@
--- What the calendar names is a station of least time; and where nothing is held.
+-- What the calendar names is the lowest-numbered station of least time; and where nothing is held.
 use mathlib.Core.Path.{_≡_, refl, sym, _∙_}
 use mathlib.Core.Bool.{Bool, true, false, true≢false}
 use mathlib.Core.Logic.{_⊎_, inl, inr}

@@ -18,7 +18,7 @@ use Rattle.engine_events.specs.Represents.{fitsIn, Holds}
 abbrev pub AfterHeader : List ℕ → List ℕ → Type 0
 AfterHeader xs ys = Frame 64 (length xs) xs ys
 
--- a station of least time, with it; 14 where no event is unrun, and where the numbers are out of range or the buffer is too short
+-- the lowest-numbered station of least time, with it; 14 where no event is unrun, and where the numbers are out of range or the buffer is too short
 pub record Finds (n c : ℕ) (xs : List ℕ) (r : Least) : Type 0 where
   pub unfit : fitsIn n c (length xs) ≡ false → r ≡ NoLeast Idle
   -- its refusal is 14, on any bytes

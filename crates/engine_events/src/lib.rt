@@ -70,7 +70,7 @@ pub fn calendar_start(n: u16, c: u16) -> u32
     72 + 144 * n as u32 + 72 * c as u32
 }
 
-// A station of the least time among the first unrun events, with that time; 14 where there is none.
+// The lowest-numbered station of the least time among the first unrun events, with that time; 14 where there is none.
 pub fn lowest(b: &[u8], n: u16, c: u16) -> Least
     ensures { λ r. ⌜ Finds n c (now (b .entry)) r ⌝ }
 {

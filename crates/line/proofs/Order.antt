@@ -268,6 +268,17 @@ later-time {a} {b} h = go (tri (a .time) (b .time))
     go (level e _) = omega arith
     go (above l _) = omega arith
 
+pub lower : (a b : Event) → a .time ≡ b .time → a .target < b .target → Lt a b
+lower a b e h = record { is = before-is a b ∙ lex-level _ e ∙ lex-below _ h }
+
+pub higher-target : {a b : Event} → Ge a b → a .time ≡ b .time → b .target ≤ a .target
+higher-target {a} {b} h e = go (tri (a .target) (b .target))
+  where
+    go : Tri (a .target) (b .target) → b .target ≤ a .target
+    go (below l _) = absurd (clash (lower a b e l) h)
+    go (level k _) = omega arith
+    go (above l _) = omega arith
+
 pub asym : {a b : Event} → Lt a b → Ge b a
 asym {a} {b} h = go (cmp b a)
   where

@@ -32,6 +32,10 @@ unfolding orNext
 as-next true n rest = refl
 as-next false n rest = refl
 
+-- no call is both accepted and refused
+pub not-both : {v : Verdict} {n : ℕ} → v ≡ accepted → v ≡ refused n → ⊥
+not-both a r = let z : _≡_ {A = ℕ} 0 1 = cc in omega arith
+
 -- an accepted call: the first number does not hold, and the rest accepts it
 pub not-holding : (b : Bool) (n : ℕ) (v : Verdict) → orNext b n v ≡ accepted → (b ≡ false) × (v ≡ accepted)
 unfolding orNext

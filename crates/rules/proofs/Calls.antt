@@ -6,6 +6,8 @@ pub mod Step
 pub mod Room
 pub mod Demand3
 pub mod LogSuits
-pub mod Compute
-pub mod Answered
 pub mod Tests
+pub mod Compute
+pub mod Lowest
+pub mod Answered
+pub mod OneAnswer

@@ -66,7 +66,8 @@ pub data Answers (p : Plan) : Engine → Call → Answer → Engine → Type 0 w
       → leastUnrun s (e .queue .held) ≡ some x
       → Does p (AddEach (runEvent p (e .queue .states (x .target)) x .sends)) (running p (e .queue) x) q
       → Answers p e (RunStation s) (Ran s (undone (e .queue .held) (q .held))) (with e q)
-  -- "Run lowest does so for the station that the calendar names"; "A run lowest, refused or not, is judged for the station of least time"
+  -- "Run lowest does so for the station that the calendar names"; "A run lowest, refused or not, is judged for the station of least time that the
+  -- calendar names then"
   lowest : {e f : Engine} {s : ℕ} {a : Answer} → Lowest (e .queue .held) s → Answers p e (RunStation s) a f → Answers p e RunLowest a f
   -- "Commit(c) writes every event before c, in order .. It drops them and sets the commit time to c .. It answers their count. Bytes behind the
   -- last are unchanged."

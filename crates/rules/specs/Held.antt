@@ -77,11 +77,12 @@ timeOf (some x) = at (x .time)
 unfoldable pub registered : List Held → ℕ → Registered
 registered h s = timeOf (leastUnrun s h)
 
--- s has the least registered time
+-- s has the least registered time, and is "the lowest-numbered of these" (document 02, change 3)
 pub record Lowest (h : List Held) (s : ℕ) : Type 0 where
   pub time : ℕ
   pub is : registered h s ≡ at time
   pub least : (t : ℕ) (u : ℕ) → registered h t ≡ at u → time ≤ u
+  pub first : (t : ℕ) → registered h t ≡ at time → s ≤ t
 
 -- ---- counts and tests
 

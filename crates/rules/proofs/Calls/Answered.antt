@@ -1,8 +1,8 @@
--- Every engine that calls have left answers every call, and in one way; only the station of a run lowest is free among those of the least time.
+-- Every engine that calls have left answers every call.
 use mathlib.Core.Path.{_≡_, refl, sym, ap, _∙_, subst}
 use mathlib.Core.Bool.{Bool, true, false, cond, _&&_, true≢false}
 use mathlib.Core.List.{List, [], _∷_, List·Memᴰ·head, List·Memᴰ·tail}
-use Prim.Native.Nat.{ℕ, suc, _+_, _≤_}
+use Prim.Native.Nat.{ℕ, suc, _+_}
 use native.Mathlib.Omega.{arith}
 use lib.Dec.{eqb}
 use Rattle.refusal.specs.Tests.{Verdict, accepted, refused, judged}
@@ -13,26 +13,24 @@ use Rattle.line.specs.declared.Meant.the-variants.{Means, Refused as Unsuited}
 use Rattle.line.specs.Event.{posted}
 use Rattle.line.specs.Matter.{matterOf, unsuited}
 use Rattle.line.specs.Station.{Plan, InRange}
-use Rattle.line.specs.Order.{Ge}
-use Rattle.line.proofs.Order.{irr, later-time, Which, this, other, which}
-use Rattle.rules.specs.Held.{Held, unrun, ran, event, Queue, In, Found, none, some, leastUnrun, at, timeOf, registered, Lowest, heldPost, noneUnrun, undone}
+use Rattle.rules.specs.Held.{Held, unrun, ran, event, Queue, In, Found, none, some, leastUnrun, heldPost, noneUnrun, undone}
 use Rattle.rules.specs.Undo.{Does, Remove, Add, AddEach}
-use Rattle.rules.specs.Engine.{Engine, opened, Call, Post, Retract, RunStation, RunLowest, Commit, Record, Answer, Posted, Retracted, Ran}
+use Rattle.rules.specs.Engine.{Engine, opened, Call, Post, Retract, RunStation, RunLowest, Commit, Record}
 use Rattle.rules.specs.Checks.{missing, checks}
-use Rattle.rules.specs.Calls.{postOf, with, running, Answers, refuse, post, retract, run, lowest, commit, recorded, afterPost}
+use Rattle.rules.specs.Calls.{postOf, running, Answers, refuse, post, retract, run, lowest, commit, recorded}
 use Rattle.rules.specs.Demand.{Calls, end, next}
 use Rattle.rules.proofs.Calls.Compute.{Step, settle, postStep, retractStep, runStep, stationStep, lowestOf, commitStep, answerTo, answersTo, leftBy}
-use Rattle.rules.specs.Executable as F
-use Rattle.rules.specs.Executable.{runs, runLeast}
+use Rattle.rules.specs.Executable.{runs}
 use Rattle.rules.proofs.Replay.Replay.{sendsOf}
-use Rattle.rules.specs.Replay.{InOrder, Neat}
-use Rattle.rules.proofs.Replay.Mark.{First, first-target, first-held}
+use Rattle.rules.specs.Replay.{Neat}
+use Rattle.rules.proofs.Replay.Mark.{First, first-target}
 use Rattle.rules.proofs.Replay.RunsLeft.{runs-mark}
 use Rattle.rules.proofs.Undo.Agree.{does-agree}
 use Rattle.rules.proofs.Undo.Exist.{IsHeld, is-unrun, is-run, can-remove, can-add}
 use Rattle.rules.proofs.Undo.Count.{undos, Suits, undone-undos, undone-run, does-falls}
 use Rattle.rules.proofs.Calls.Invariant.{Inv, opened-inv, least-first, held-neat, post-new}
 use Rattle.rules.proofs.Calls.Step.{call-next, post-passed, run-fits, running-neat, can-run, run-queue}
+use Rattle.rules.proofs.Calls.Lowest.{lowest-is}
 use Rattle.refusal.proofs.CheckingOrder.{not-holding}
 
 -- ---- an answer for every call
@@ -55,32 +53,6 @@ post-held n (y ∷ h) x e = go (eqb (event y .source) posted && eqb (event y .nu
     go true f ih = let q : event y ≡ x = cc in subst (λ z. IsHeld z (y ∷ h)) q (is-held y (y ∷ h) (List·Memᴰ·head refl))
     go false f ih = beyond (ih f)
 
--- a registered station has a least unrun event at its time
-registered-some : (h : List Held) (t u : ℕ) → registered h t ≡ at u → (y : Event) × (leastUnrun t h ≡ some y) × (y .time ≡ u)
-unfolding registered timeOf
-registered-some h t u e = go (leastUnrun t h) refl e
-  where
-    go : (l : Found) → leastUnrun t h ≡ l → timeOf l ≡ at u → (y : Event) × (leastUnrun t h ≡ some y) × (y .time ≡ u)
-    go none k f = let z : _≡_ {A = ℕ} 0 1 = cc in absurd (omega arith)
-    go (some y) k f = (y, k, (cc))
-
--- the first unrun event of all has the least registered time
-lowest-is : (h : List Held) → InOrder h → noneUnrun h ≡ false → Lowest h (lowestOf h)
-unfolding noneUnrun registered leastUnrun timeOf lowestOf
-lowest-is [] o e = absurd (true≢false e)
-lowest-is (unrun x ∷ h) o e = record { time = x .time; is = here (which (x .target) (x .target)); least = later }
-  where
-    here : Which (x .target) (x .target) → registered (unrun x ∷ h) (x .target) ≡ at (x .time)
-    here (this _ t) = rw t
-    here (other n _) = absurd (n refl)
-
-    later : (t u : ℕ) → registered (unrun x ∷ h) t ≡ at u → x .time ≤ u
-    later t u k =
-        let y = registered-some (unrun x ∷ h) t u k in
-        let g : Ge (y .0) x = first-held x (least-first t (unrun x ∷ h) (y .0) (y .1)) (irr x, o .0) in
-        omega (arith, later-time g, y .2)
-lowest-is (ran x b ∷ h) o e = let r = lowest-is h (o .1) e in record { time = r .time; is = r .is; least = r .least }
-
 module _ (p : Plan) (S : InRange p) (e : Engine) (posts : List Event) (gone log : List ℕ) (i : Inv p e posts gone log) where
   neat : Neat p (e .queue .held)
   neat = held-neat p S e posts gone log i
@@ -88,7 +60,7 @@ module _ (p : Plan) (S : InRange p) (e : Engine) (posts : List Event) (gone log 
   pub first-of : (s : ℕ) (x : Event) → leastUnrun s (e .queue .held) ≡ some x → First (x .target) x (e .queue .held)
   first-of s x k = let g = least-first s (e .queue .held) x k in subst (λ t. First t x (e .queue .held)) (sym (first-target g)) g
 
-  post-fits : (s t kind value : ℕ) (m : Matter) → judged (checks p e (Post s t kind value)) ≡ accepted → Suits p (Add (postOf (e .next) s t m)) (e .queue)
+  pub post-fits : (s t kind value : ℕ) (m : Matter) → judged (checks p e (Post s t kind value)) ≡ accepted → Suits p (Add (postOf (e .next) s t m)) (e .queue)
   unfolding postOf
   post-fits s t kind value m j = (post-passed p e s t kind value j .0, post-new p S e posts gone log i (record { time = t; target = s; source = posted; number = e .next; matter = m }) refl refl)
 
@@ -176,53 +148,6 @@ module _ (p : Plan) (S : InRange p) (e : Engine) (posts : List Event) (gone log 
     where
       falls : suc (runs (e .queue .held)) ≡ undos d + runs (q .held)
       falls = sym (marked-runs x f) ∙ does-falls d (running-neat p S e posts gone log i x f) (run-fits p S e posts gone log i x f)
-
--- ---- one answer for every call
-
-differ-verdict : {v : Verdict} {n : ℕ} → v ≡ accepted → v ≡ refused n → ⊥
-differ-verdict a r = let z : _≡_ {A = ℕ} 0 1 = cc in omega arith
-
-module _ (p : Plan) (S : InRange p) where
-  pub one-answer : {e f g : Engine} {c : Call} {a b : Answer} (posts : List Event) (gone log : List ℕ) → Inv p e posts gone log → (c ≡ RunLowest → ⊥)
-      → Answers p e c a f → Answers p e c b g → (a ≡ b) × (f ≡ g)
-  unfolding with
-  one-answer ps gone log i l (refuse j) (refuse k) = ((cc), refl)
-  one-answer ps gone log i l (refuse j) (post k m d) = absurd (differ-verdict k j)
-  one-answer ps gone log i l (refuse j) (retract k m d) = absurd (differ-verdict k j)
-  one-answer ps gone log i l (refuse j) (run k m d) = absurd (differ-verdict k j)
-  one-answer ps gone log i l (refuse j) (lowest k d) = absurd (l refl)
-  one-answer ps gone log i l (refuse j) (commit k) = absurd (differ-verdict k j)
-  one-answer ps gone log i l (refuse j) (recorded k) = absurd (differ-verdict k j)
-  one-answer ps gone log i l (post j m d) (refuse k) = absurd (differ-verdict j k)
-  one-answer ps gone log i l (post {e = e} {s = s} {t = t} {kind = kind} {value = value} {m = x} {q = q} j m d) (post {m = y} {q = r} k n c) =
-      let u =
-      does-agree p d (held-neat p S e ps gone log i) (post-fits p S e ps gone log i s t kind value x j .0)
-      (post-fits p S e ps gone log i s t kind value x j .1) .0 in
-      let v =
-      does-agree p c (held-neat p S e ps gone log i) (post-fits p S e ps gone log i s t kind value y k .0)
-      (post-fits p S e ps gone log i s t kind value y k .1) .0 in
-      let w : x ≡ y = cc in
-      let z : q ≡ r = u ∙ ap (λ h. F.adding p (e .queue) (postOf (e .next) s t h)) w ∙ sym v in
-      (ap (λ h. Posted (e .next) (undone (e .queue .held) (h .held))) z, ap (afterPost e) z)
-  one-answer ps gone log i l (retract j m d) (refuse k) = absurd (differ-verdict j k)
-  one-answer ps gone log i l (retract {e = e} {x = x} {q = q} j m d) (retract {x = y} {q = r} k n c) =
-      let w : x ≡ y = cc in
-      let z : q ≡ r =
-      does-agree p d (held-neat p S e ps gone log i) .0 ∙ ap (F.removing p (e .queue)) w
-      ∙ sym (does-agree p c (held-neat p S e ps gone log i) .0) in
-      (ap (λ h. Retracted (undone (e .queue .held) (h .held))) z, ap (with e) z)
-  one-answer ps gone log i l (run j m d) (refuse k) = absurd (differ-verdict j k)
-  one-answer ps gone log i l (run {e = e} {s = s} {x = x} {q = q} j m d) (run {x = y} {q = r} k n c) =
-      let w : x ≡ y = cc in
-      let z : q ≡ r =
-      run-queue p S e ps gone log i x (first-of p S e ps gone log i s x m) q d ∙ ap (runLeast p (e .queue)) w
-      ∙ sym (run-queue p S e ps gone log i y (first-of p S e ps gone log i s y n) r c) in
-      (ap (λ h. Ran s (undone (e .queue .held) (h .held))) z, ap (with e) z)
-  one-answer ps gone log i l (lowest j d) k = absurd (l refl)
-  one-answer ps gone log i l (commit j) (refuse k) = absurd (differ-verdict j k)
-  one-answer ps gone log i l (commit j) (commit k) = (refl, refl)
-  one-answer ps gone log i l (recorded j) (refuse k) = absurd (differ-verdict j k)
-  one-answer ps gone log i l (recorded j) (recorded k) = (refl, refl)
 
 -- ---- lists of calls
 
