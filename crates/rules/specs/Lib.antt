@@ -7,3 +7,4 @@ pub mod Engine
 pub mod Checks
 pub mod Calls
 pub mod Demand
+pub mod Printout

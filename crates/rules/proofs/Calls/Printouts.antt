@@ -1,0 +1,119 @@
+-- The answers to a list of calls after an opening are computed from the plan, the capacity and the calls alone, so two lists of the same calls have the
+-- same.
+use mathlib.Core.Path.{_≡_, refl, sym, ap, _∙_}
+use mathlib.Core.List.{List, [], _∷_, _++_, map}
+use Prim.Native.Nat.{ℕ, _*_}
+use native.Mathlib.Omega.{arith}
+use lib.ListN.{length, drop, replicate, length-replicate}
+use lib.Seq.{take-take}
+use Rattle.refusal.specs.Tests.{Verdict, accepted, refused, judged}
+use Rattle.line.specs.declared.Event.{Event}
+use Rattle.line.specs.Station.{Plan, InRange}
+use Rattle.entry.proofs.Entries.{entries-first}
+use Rattle.rules.specs.Held.{logged}
+use Rattle.rules.specs.Engine.{Engine, opened, Call, Post, Retract, RunStation, RunLowest, Commit, Record, Answer, Refused, Posted, Retracted, Ran, Committed, Recorded}
+use Rattle.rules.specs.Checks.{checks}
+use Rattle.rules.specs.Demand.{Made, Calls, end, next, logIn, logs}
+use Rattle.rules.specs.Printout.{callsOf, answersOf, blanked, trimmed, Alike}
+use Rattle.rules.proofs.Calls.Compute.{Step, settle, commitStep, answerTo, answersTo}
+use Rattle.rules.proofs.Calls.Invariant.{Inv, opened-inv}
+use Rattle.rules.proofs.Calls.Step.{call-next}
+use Rattle.rules.proofs.Calls.OneAnswer.{answer-only}
+
+-- ---- what the output of a commit held
+
+-- the same but for the bytes behind a log
+abbrev SameStep : Step → Step → Type 0
+SameStep d k = (trimmed (d .answer) ≡ trimmed (k .answer)) × (d .engine ≡ k .engine)
+
+module _ (p : Plan) (e : Engine) where
+  -- of an output the length is judged
+  same-length : (c : ℕ) (output other : List ℕ) → length output ≡ length other → checks p e (Commit c output) ≡ checks p e (Commit c other)
+  unfolding checks
+  same-length c output other h = rw h
+
+  blanked-checks : (c : Call) → checks p e (blanked c) ≡ checks p e c
+  unfolding blanked
+  blanked-checks (Post s t kind value) = refl
+  blanked-checks (Retract n) = refl
+  blanked-checks (RunStation s) = refl
+  blanked-checks RunLowest = refl
+  blanked-checks (Commit c output) = same-length c _ output (length-replicate {A = ℕ} (length output) 0)
+  blanked-checks (Record s) = refl
+
+  -- two commits of other outputs, judged alike
+  same-commit : (v : Verdict) (c : ℕ) (output other : List ℕ) → SameStep (settle v e (commitStep e c output)) (settle v e (commitStep e c other))
+  unfolding settle commitStep trimmed
+  same-commit (refused n) c output other = (refl, refl)
+  same-commit accepted c output other =
+      let log = logged c (e .queue .held) in
+      let from = 24 * length log in
+      (ap (Committed (length log)) (entries-first log (drop from output) ∙ sym (entries-first log (drop from other))), refl)
+
+  same-step : (c : Call) → SameStep (answerTo p e (blanked c)) (answerTo p e c)
+  unfolding blanked answerTo
+  same-step (Post s t kind value) = (refl, refl)
+  same-step (Retract n) = (refl, refl)
+  same-step (RunStation s) = (refl, refl)
+  same-step RunLowest = (refl, refl)
+  same-step (Commit c output) =
+      rw (blanked-checks (Commit c output)) (same-commit (judged (checks p e (Commit c output))) c (replicate (length output) 0) output)
+  same-step (Record s) = (refl, refl)
+
+-- ---- the joined logs of the answers
+
+joined : List Answer → List ℕ
+joined [] = []
+joined (a ∷ rest) = logIn a ++ joined rest
+
+log-trimmed : (a : Answer) → logIn (trimmed a) ≡ logIn a
+unfolding logIn trimmed
+log-trimmed (Refused n) = refl
+log-trimmed (Posted n u) = refl
+log-trimmed (Retracted u) = refl
+log-trimmed (Ran s u) = refl
+log-trimmed (Committed n output) = take-take (24 * n) (24 * n) output (omega arith)
+log-trimmed (Recorded st) = refl
+
+logs-joined : (ms : List Made) → logs ms ≡ joined (map trimmed (answersOf ms))
+unfolding logs joined
+logs-joined [] = refl
+logs-joined (m ∷ ms) = rw (log-trimmed (m .said), logs-joined ms)
+
+-- ---- what a list answers is what is computed
+
+module _ (p : Plan) (S : InRange p) where
+  calls-only : {e f : Engine} {ms : List Made} (ps : List Event) (gone log : List ℕ) → Inv p e ps gone log → Calls p e ms f
+      → ms ≡ answersTo p e (callsOf ms)
+  unfolding answersTo
+  calls-only ps gone log i end = refl
+  calls-only ps gone log i (next {m = m} {ms = ms} d c) =
+      let r = calls-only _ _ _ (call-next p S ps gone log d i .inv) c in
+      ap (λ ns. m ∷ ns) r
+      ∙ ap (λ (k : Step). record { asked = m .asked; said = k .answer } ∷ answersTo p (k .engine) (callsOf ms)) (answer-only p S ps gone log i d)
+
+  calls-trimmed : (cs : List Call) (e : Engine) → map trimmed (answersOf (answersTo p e (map blanked cs))) ≡ map trimmed (answersOf (answersTo p e cs))
+  unfolding answersTo
+  calls-trimmed [] e = refl
+  calls-trimmed (c ∷ cs) e =
+      let k = same-step p e c in
+      rw (k .0, k .1, calls-trimmed cs (answerTo p e c .engine))
+
+  pub alike : (capacity : ℕ) {ms ns : List Made} {f g : Engine} → Calls p (opened p capacity) ms f → Calls p (opened p capacity) ns g → Alike ms ns
+  alike capacity {ms} {ns} {f} {g} c d = record {
+    same = λ k. only c ∙ ap (answersTo p (opened p capacity)) k ∙ sym (only d);
+    answers = answers;
+    logs-are = λ k. logs-joined ms ∙ ap joined (answers k) ∙ sym (logs-joined ns);
+  }
+    where
+      only : {ls : List Made} {h : Engine} → Calls p (opened p capacity) ls h → ls ≡ answersTo p (opened p capacity) (callsOf ls)
+      only k = calls-only [] [] [] (opened-inv p capacity) k
+
+      shown : List Call → List Answer
+      shown cs = map trimmed (answersOf (answersTo p (opened p capacity) cs))
+
+      shows : {ls : List Made} {h : Engine} → Calls p (opened p capacity) ls h → map trimmed (answersOf ls) ≡ shown (map blanked (callsOf ls))
+      shows {ls} k = ap (λ l. map trimmed (answersOf l)) (only k) ∙ sym (calls-trimmed (callsOf ls) (opened p capacity))
+
+      answers : map blanked (callsOf ms) ≡ map blanked (callsOf ns) → map trimmed (answersOf ms) ≡ map trimmed (answersOf ns)
+      answers k = shows c ∙ ap shown k ∙ sym (shows d)
