@@ -32,10 +32,6 @@ def answer(engine, line):
         return ["no 8"]
     if call == "commit":
         said = engine.commit(numbers[0], 1536)
-    elif call == "lowest":
-        unrun = engine.unrun()
-        least = min((k[0] for k in unrun), default=0)
-        said = engine.run(min(k[1] for k in unrun if k[0] == least)) if unrun else ("Refused", 14)
     else:
         said = getattr(engine, call)(*numbers)
     if said[0] == "Refused":

@@ -161,6 +161,36 @@ extract
 extract
 extract
 extract
+""")
+
+# ties, in no order of their numbers
+TIE = """
+register 200 {0}
+register 3 {0}
+register 9 {0}
+"""
+MOVE = """
+register 3 {0}
+lowest
+register 3 {1}
+"""
+TAKE = """
+lowest
+extract
+extract
+extract
+"""
+script("open 256 64 49152" + TIE.format(100) + TAKE)
+script(TIE.format(300000) + TAKE)
+script(TIE.format(300000) + "advance 65536" + TAKE)
+for time in (70000, 900000):
+    script(TIE.format(time) + MOVE.format(time + 1000, time) + TAKE)
+script("""
+register 1 70000
+register 0 70001
+lowest
+register 0 70000
+lowest
 open 4 64 33100
 register 2 77
 lowest
@@ -196,4 +226,5 @@ def drawn(n, width, span, d, count):
 drawn(5, 1, 9000, 1, 300)
 drawn(256, 64, 400000, 77, 300)
 drawn(40, 3, 20000, 12345, 300)
+drawn(40, 3, 40, 4321, 200)
 drawn(256, 1048576, 1000000000, 999, 200)

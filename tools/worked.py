@@ -139,6 +139,7 @@ class Engine:
         return ("Ran", station, len(ran - set(self.before)))
 
     def lowest(self):
+        """Of the stations of the least time the lowest-numbered: a key begins with the time and the target."""
         return self.run(min(self.unrun())[1]) if self.unrun() else ("Refused", 14)
 
     def commit(self, time, room):

@@ -346,13 +346,6 @@ impl Engine {
         Ok(self.undone(&before))
     }
 
-    /// Each station of the lowest time.
-    pub fn lowest(&self) -> Vec<u64> {
-        let unrun: Vec<_> = self.held.iter().filter(|(_, h)| h.run.is_none()).map(|(k, _)| *k).collect();
-        let Some(least) = unrun.iter().map(|k| k.0).min() else { return vec![] };
-        unrun.iter().filter(|k| k.0 == least).map(|k| k.1).collect()
-    }
-
     pub fn run(&mut self, station: u64) -> Result<(u64, u64), u64> {
         if station >= self.n() {
             return Err(9);
@@ -374,6 +367,13 @@ impl Engine {
             self.add(k, m);
         }
         Ok((station, self.undone(&before)))
+    }
+
+    /// Of the stations of the lowest time the lowest-numbered one is run.
+    pub fn run_lowest(&mut self) -> Result<(u64, u64), u64> {
+        let unrun = self.held.iter().filter(|(_, h)| h.run.is_none());
+        let (_, station) = unrun.map(|(k, _)| (k.0, k.1)).min().ok_or(14u64)?;
+        self.run(station)
     }
 
     pub fn commit(&mut self, time: u64, room: usize) -> Result<Vec<(Key, Matter)>, u64> {

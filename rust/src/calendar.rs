@@ -7,7 +7,7 @@ pub struct Calendar<'b> {
     bytes: &'b mut [u8],
 }
 
-/// A registered station of the lowest time.
+/// The lowest time at which a station is registered, and the lowest-numbered station that is.
 #[derive(Clone, Copy, PartialEq, Eq, Debug)]
 pub struct Lowest {
     pub time: u64,
@@ -36,7 +36,7 @@ impl<'b> Calendar<'b> {
         calls::unregister(self.bytes, station)
     }
 
-    /// A station of the lowest time. Refusal: 14.
+    /// The lowest-numbered station of the lowest time. Refusal: 14.
     pub fn lowest(&self) -> Result<Lowest, Refusal> {
         let [time, station] = calls::lowest(self.bytes)?;
         Ok(Lowest { time, station })

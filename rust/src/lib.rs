@@ -239,7 +239,7 @@ impl<'b> Engine<'b> {
         Ok(Run { station, undone })
     }
 
-    /// Runs the least unrun event of a station of the lowest time. Refusals: 14, 16, 17.
+    /// Runs the least unrun event of the lowest-numbered station of the lowest time. Refusals: 14, 16, 17.
     pub fn run_lowest(&mut self) -> Result<Run, Refusal> {
         let [station, undone] = calls::run_lowest(self.bytes)?;
         Ok(Run { station, undone })

@@ -197,6 +197,55 @@ fn overflow() {
     extract(&mut b);
 }
 
+// ---- ties: of the stations of the least time the lowest-numbered is named
+
+fn register_three(b: &mut [u8], time: u64) {
+    register(b, 200, time);
+    register(b, 3, time);
+    register(b, 9, time);
+}
+
+fn extract_three(b: &mut [u8]) {
+    lowest(b);
+    extract(b);
+    extract(b);
+    extract(b);
+}
+
+// Station 3 is moved away from the others and back.
+fn move_one(b: &mut [u8], away: u64, back: u64) {
+    register(b, 3, away);
+    lowest(b);
+    register(b, 3, back);
+}
+
+fn ties() {
+    let mut b = [165u8; 49152];
+    open(256, 64, &mut b);
+    register_three(&mut b, 100);
+    extract_three(&mut b);
+    // in the overflow table
+    register_three(&mut b, 300000);
+    extract_three(&mut b);
+    // brought in by an advance
+    register_three(&mut b, 300000);
+    advance(&mut b, 65536);
+    extract_three(&mut b);
+    // after a move, in the ring and in the overflow table
+    register_three(&mut b, 70000);
+    move_one(&mut b, 71000, 70000);
+    extract_three(&mut b);
+    register_three(&mut b, 900000);
+    move_one(&mut b, 901000, 900000);
+    extract_three(&mut b);
+    // a lower station of the same leaf has a later time, and then the same
+    register(&mut b, 1, 70000);
+    register(&mut b, 0, 70001);
+    lowest(&b);
+    register(&mut b, 0, 70000);
+    lowest(&b);
+}
+
 // ---- a calendar in a part of a larger buffer
 
 fn register_in(b: &mut [u8], from: usize, to: usize, station: u64, time: u64) -> Answer
@@ -331,9 +380,11 @@ fn main() {
     places();
     last_block();
     overflow();
+    ties();
     part();
     drawn(5, 1, 9000, 1, 300);
     drawn(256, 64, 400000, 77, 300);
     drawn(40, 3, 20000, 12345, 300);
+    drawn(40, 3, 40, 4321, 200);
     drawn(256, 1048576, 1000000000, 999, 200);
 }

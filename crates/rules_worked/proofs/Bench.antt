@@ -19,10 +19,10 @@ use Rattle.rules.proofs.Calls.Compute.{settle, postStep, retractStep, runStep, 
 use Rattle.rules_worked.proofs.Check.{nth, allIn, in-range, at, zeros, pairs, Gives, computed}
 
 -- "two unnamed stations; periods 1000 and 200, threshold 5000, delay 30, noise 0, seed 1, parents 0"
-station : Config
+unfoldable pub station : Config
 station = record { parent = 0; calm = 1000; spring = 200; threshold = 5000; hop = 30; noise = 0; seed = 1 }
 
-pub plan : List Config
+unfoldable pub plan : List Config
 plan = station ∷ station ∷ []
 
 -- "post 1 0 1 0 / run / run / run / post 1 500 3 5000 / run / run / commit 1001"

@@ -1,4 +1,5 @@
 pub mod Check
 pub mod Bench
 pub mod LastFrame
+pub mod Ties
 pub mod Lists

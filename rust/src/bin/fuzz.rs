@@ -87,17 +87,8 @@ fn compare(seed: u64) -> u64 {
                 assert_eq!(a, model.run(station), "case {seed}, call {calls}: run {station}");
             }
             51..=78 => {
-                // which of several stations of the lowest time is free: it is the one that was answered, or, where the run is refused, one of them
-                let lowest = model.lowest();
                 let a = number(engine.run_lowest()).map(|r| (r.station, r.undone));
-                match a {
-                    Ok((s, _)) => {
-                        assert!(lowest.contains(&s), "case {seed}, call {calls}: run lowest named {s} of {lowest:?}");
-                        assert_eq!(a, model.run(s), "case {seed}, call {calls}: run lowest");
-                    }
-                    Err(14) => assert!(lowest.is_empty(), "case {seed}, call {calls}: 14 with {lowest:?}"),
-                    Err(e) => assert_eq!(model.run(lowest[0]), Err(e), "case {seed}, call {calls}: run lowest"),
-                }
+                assert_eq!(a, model.run_lowest(), "case {seed}, call {calls}: run lowest");
             }
             79..=92 => {
                 let time = if dice.one_in(3) { time } else { model.now + dice.below(20) };

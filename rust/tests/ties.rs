@@ -1,0 +1,113 @@
+//! Ties (document 02, change 3): of the stations of the lowest time the lowest-numbered one is named, whatever the leaf width and whatever the buffers held.
+use jambfennel::calendar::{Calendar, Lowest};
+use jambfennel::{Config, Engine, Entry, Matter, Plan, Station};
+
+const WIDTHS: [u64; 4] = [1, 64, 1000, 1_048_576];
+
+/// A calendar with stations 200, 3 and 9 registered at one time.
+fn tied(width: u64, time: u64, calls: impl FnOnce(Calendar)) {
+    let mut buffer = vec![0xA5; Calendar::bytes(256)];
+    let mut calendar = Calendar::open(256, width, &mut buffer).unwrap();
+    [200, 3, 9].iter().for_each(|s| calendar.register(*s, time).unwrap());
+    calls(calendar);
+}
+
+fn taken_in_order(mut calendar: Calendar, time: u64) {
+    for station in [3, 9, 200] {
+        assert_eq!(calendar.lowest(), Ok(Lowest { time, station }));
+        assert_eq!(calendar.extract(), Ok(Lowest { time, station }));
+    }
+    assert_eq!(calendar.lowest().unwrap_err().number, 14);
+}
+
+#[test]
+fn in_a_leaf_and_in_the_overflow_table() {
+    for width in WIDTHS {
+        // the ring covers 4096 leaves
+        for time in [0, 100, 4096 * width - 1, 4096 * width, 1_099_511_627_775] {
+            tied(width, time, |calendar| taken_in_order(calendar, time));
+        }
+    }
+}
+
+#[test]
+fn brought_in_by_an_advance() {
+    for width in WIDTHS {
+        let time = 5000 * width;
+        tied(width, time, |mut calendar| {
+            calendar.advance(2000 * width).unwrap();
+            taken_in_order(calendar, time);
+        });
+    }
+}
+
+#[test]
+fn moved_away_and_back() {
+    for width in WIDTHS {
+        for time in [500, 5000 * width] {
+            tied(width, time, |mut calendar| {
+                calendar.register(3, time + 1).unwrap();
+                assert_eq!(calendar.lowest(), Ok(Lowest { time, station: 9 }));
+                calendar.register(3, time).unwrap();
+                taken_in_order(calendar, time);
+            });
+        }
+    }
+}
+
+/// Two stations, opened in a buffer of such bytes.
+fn with_engine(width: u64, capacity: u64, held: u8, calls: impl FnOnce(Engine)) {
+    let station = Station::new(Config { parent: 0, calm: 1000, spring: 200, threshold: 5000, hop: 30, noise: 0, seed: 1 }, b"");
+    let mut bytes = [0; Plan::bytes_for(2)];
+    let plan = Plan::write(&[station, station], &mut bytes).unwrap();
+    let mut buffer = vec![held; Engine::bytes(2, capacity as usize)];
+    calls(Engine::open(&plan, width, capacity, &mut buffer).unwrap());
+}
+
+/// The lists of rules_worked/proofs/Ties.
+#[test]
+fn run_lowest_runs_the_lower_station() {
+    with_engine(64, 8, 0, |mut engine| {
+        engine.post(1, 5, Matter::Level(1)).unwrap();
+        engine.post(0, 5, Matter::Level(1)).unwrap();
+        assert_eq!(engine.run_lowest().unwrap().station, 0);
+        assert_eq!(engine.run_lowest().unwrap().station, 1);
+        assert_eq!(engine.run_lowest().unwrap_err().number, 14);
+    });
+}
+
+#[test]
+fn a_refused_one_is_that_stations() {
+    with_engine(64, 2, 0, |mut engine| {
+        engine.post(1, 0, Matter::Reading).unwrap();
+        engine.post(0, 0, Matter::Level(7)).unwrap();
+        assert_eq!(engine.run_lowest().unwrap().station, 0);
+        assert_eq!(engine.run_lowest().unwrap_err().number, 17);
+    });
+}
+
+/// Two printouts of one plan: every answer and every entry, in words.
+#[test]
+fn two_printouts_are_the_same() {
+    let printout = |width, held: u8| {
+        let mut lines = vec![];
+        with_engine(width, 16, held, |mut engine| {
+            for time in [500, 20, 20, 500, 0, 40] {
+                for (station, matter) in [(1, Matter::Reading), (0, Matter::Level(9)), (0, Matter::Frame { origin: 1, repeats: 0 })] {
+                    lines.push(format!("{:?}", engine.post(station, time, matter)));
+                    lines.push(format!("{:?}", engine.run_lowest()));
+                }
+                let mut output = [held; 24 * 4];
+                let log = engine.commit(time, &mut output).map(|log| log.collect::<Vec<Entry>>());
+                lines.push(format!("{log:?}"));
+            }
+            (0..40).for_each(|_| lines.push(format!("{:?}", engine.run_lowest())));
+            (0..3).for_each(|s| lines.push(format!("{:?}", engine.record(s))));
+        });
+        lines
+    };
+    let first = printout(1, 0);
+    for (width, held) in [(1, 0xFF), (64, 0), (1000, 0xA5), (1_048_576, 7)] {
+        assert_eq!(printout(width, held), first);
+    }
+}
