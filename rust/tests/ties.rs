@@ -92,21 +92,22 @@ fn two_printouts_are_the_same() {
     let printout = |width, held: u8| {
         let mut lines = vec![];
         with_engine(width, 16, held, |mut engine| {
-            for time in [500, 20, 20, 500, 0, 40] {
+            // both stations are due at each of these times; 70 and 90 come late
+            for time in [0, 40, 100, 70, 90, 130] {
                 for (station, matter) in [(1, Matter::Reading), (0, Matter::Level(9)), (0, Matter::Frame { origin: 1, repeats: 0 })] {
                     lines.push(format!("{:?}", engine.post(station, time, matter)));
-                    lines.push(format!("{:?}", engine.run_lowest()));
                 }
-                let mut output = [held; 24 * 4];
-                let log = engine.commit(time, &mut output).map(|log| log.collect::<Vec<Entry>>());
+                (0..5).for_each(|_| lines.push(format!("{:?}", engine.run_lowest())));
+                let mut output = [held; 24 * 8];
+                let log = engine.commit(time.min(65), &mut output).map(|log| log.collect::<Vec<Entry>>());
                 lines.push(format!("{log:?}"));
             }
-            (0..40).for_each(|_| lines.push(format!("{:?}", engine.run_lowest())));
             (0..3).for_each(|s| lines.push(format!("{:?}", engine.record(s))));
         });
         lines
     };
     let first = printout(1, 0);
+    assert!(first.iter().any(|line| line.contains("Entry")) && first.iter().any(|line| line.contains("17")));
     for (width, held) in [(1, 0xFF), (64, 0), (1000, 0xA5), (1_048_576, 7)] {
         assert_eq!(printout(width, held), first);
     }
