@@ -13,6 +13,7 @@ use Rattle.entry.proofs.Entries.{entries-first}
 use Rattle.rules.specs.Held.{logged}
 use Rattle.rules.specs.Engine.{Engine, opened, Call, Post, Retract, RunStation, RunLowest, Commit, Record, Answer, Refused, Posted, Retracted, Ran, Committed, Recorded}
 use Rattle.rules.specs.Checks.{checks}
+use Rattle.rules.specs.Calls.{Answers}
 use Rattle.rules.specs.Demand.{Made, Calls, end, next, logIn, logs}
 use Rattle.rules.specs.Printout.{callsOf, answersOf, blanked, trimmed, Alike}
 use Rattle.rules.proofs.Calls.Compute.{Step, settle, commitStep, answerTo, answersTo}
@@ -32,15 +33,6 @@ module _ (p : Plan) (e : Engine) where
   unfolding checks
   same-length c output other h = rw h
 
-  blanked-checks : (c : Call) → checks p e (blanked c) ≡ checks p e c
-  unfolding blanked
-  blanked-checks (Post s t kind value) = refl
-  blanked-checks (Retract n) = refl
-  blanked-checks (RunStation s) = refl
-  blanked-checks RunLowest = refl
-  blanked-checks (Commit c output) = same-length c _ output (length-replicate {A = ℕ} (length output) 0)
-  blanked-checks (Record s) = refl
-
   -- two commits of other outputs, judged alike
   same-commit : (v : Verdict) (c : ℕ) (output other : List ℕ) → SameStep (settle v e (commitStep e c output)) (settle v e (commitStep e c other))
   unfolding settle commitStep trimmed
@@ -57,8 +49,25 @@ module _ (p : Plan) (e : Engine) where
   same-step (RunStation s) = (refl, refl)
   same-step RunLowest = (refl, refl)
   same-step (Commit c output) =
-      rw (blanked-checks (Commit c output)) (same-commit (judged (checks p e (Commit c output))) c (replicate (length output) 0) output)
+      rw (same-length c _ output (length-replicate {A = ℕ} (length output) 0))
+      (same-commit (judged (checks p e (Commit c output))) c (replicate (length output) 0) output)
   same-step (Record s) = (refl, refl)
+
+-- ---- one call
+
+module _ (p : Plan) (S : InRange p) {e : Engine} (ps : List Event) (gone log : List ℕ) (i : Inv p e ps gone log) where
+  as-blanked : {f : Engine} {c : Call} {a : Answer} → Answers p e c a f → SameStep (record { answer = a; engine = f }) (answerTo p e (blanked c))
+  as-blanked {c = c} d =
+      let z = answer-only p S ps gone log i d in
+      let k = same-step p e c in
+      (ap (λ (x : Step). trimmed (x .answer)) z ∙ sym (k .0), ap (λ (x : Step). x .engine) z ∙ sym (k .1))
+
+  pub same-answer : {f g : Engine} (c d : Call) {a b : Answer} → blanked c ≡ blanked d → Answers p e c a f → Answers p e d b g
+      → (trimmed a ≡ trimmed b) × (f ≡ g)
+  same-answer c d k x y =
+      let m = as-blanked x in
+      let n = as-blanked y in
+      (m .0 ∙ ap (λ h. trimmed (answerTo p e h .answer)) k ∙ sym (n .0), m .1 ∙ ap (λ h. answerTo p e h .engine) k ∙ sym (n .1))
 
 -- ---- the joined logs of the answers
 
