@@ -11,7 +11,7 @@ use Rattle.words.proofs.Cases.{lt-or}
 use Rattle.words.proofs.Total.{load-in, load-out}
 use Rattle.entry.specs.Entry.{eventAt}
 use Rattle.rules.specs.Engine.{Answer, Refused, Posted, Retracted, Ran, Committed, Recorded}
-use Rattle.rules.specs.Printout.{trimmed}
+use Rattle.rules.specs.Alike.{trimmed}
 use Rattle.bench_command.specs.declared.Output.the-variants as Out
 use Rattle.bench_command.specs.Lines.{outputOf}
 use Rattle.bench_answers.specs.Shown.{entryLines, linesOf}

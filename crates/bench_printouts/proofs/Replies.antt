@@ -6,10 +6,10 @@ use lib.ListN.{length, replicate}
 use Rattle.line.specs.declared.Event.{Event}
 use Rattle.line.specs.Station.{Plan}
 use Rattle.rules.specs.Engine.{Engine, Call, Commit, Answer}
-use Rattle.rules.specs.Printout.{blanked, trimmed}
+use Rattle.rules.specs.Alike.{blanked, trimmed}
 use Rattle.rules.proofs.Calls.Invariant.{Inv}
 use Rattle.rules.proofs.Calls.Step.{call-next}
-use Rattle.rules.proofs.Calls.Printouts.{same-answer}
+use Rattle.rules.proofs.Calls.Alike.{same-answer}
 use Rattle.engine_promises.specs.Represents.{Represents}
 use Rattle.engine_promises.specs.Promises.{Answered}
 use Rattle.bench_command.specs.declared.Command.{Command}

@@ -3,7 +3,7 @@ use mathlib.Core.Path.{refl}
 use mathlib.Core.List.{List}
 use Prim.Native.Nat.{ℕ}
 use Rattle.rules.specs.Demand.{Made}
-use Rattle.rules.proofs.Calls.Printouts.{alike}
+use Rattle.rules.proofs.Calls.Alike.{alike}
 use Rattle.engine_answers.specs.declared.OpenAnswer.the-variants.{Done}
 use Rattle.engine_promises.specs.Represents.{lineOf}
 use Rattle.engine.specs.Session.{Whole}

@@ -2,7 +2,7 @@
 use mathlib.Core.List.{List}
 use Prim.Native.Nat.{ℕ}
 use Rattle.rules.specs.Demand.{Made}
-use Rattle.rules.specs.Printout.{Alike}
+use Rattle.rules.specs.Alike.{Alike}
 use Rattle.engine_answers.specs.declared.OpenAnswer.the-variants.{Done}
 use Rattle.engine_promises.specs.Promises.{Opens}
 use Rattle.engine.specs.Session.{Chain}

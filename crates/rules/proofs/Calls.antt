@@ -11,4 +11,4 @@ pub mod Compute
 pub mod Lowest
 pub mod Answered
 pub mod OneAnswer
-pub mod Printouts
+pub mod Alike

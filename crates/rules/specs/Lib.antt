@@ -7,4 +7,4 @@ pub mod Engine
 pub mod Checks
 pub mod Calls
 pub mod Demand
-pub mod Printout
+pub mod Alike

@@ -15,7 +15,7 @@ use Rattle.rules.specs.Engine.{Engine, opened, Call, Post, Retract, RunS
 use Rattle.rules.specs.Checks.{checks}
 use Rattle.rules.specs.Calls.{Answers}
 use Rattle.rules.specs.Demand.{Made, Calls, end, next, logIn, logs}
-use Rattle.rules.specs.Printout.{callsOf, answersOf, blanked, trimmed, Alike}
+use Rattle.rules.specs.Alike.{callsOf, answersOf, blanked, trimmed, Alike}
 use Rattle.rules.proofs.Calls.Compute.{Step, settle, commitStep, answerTo, answersTo}
 use Rattle.rules.proofs.Calls.Invariant.{Inv, opened-inv}
 use Rattle.rules.proofs.Calls.Step.{call-next}
