@@ -1,6 +1,6 @@
 #!/usr/bin/env python3
-"""What crate calendar_test writes, from a reading of document 01 ("Calendar" and the numbers) that shares nothing with the crates: a dictionary of
-times, searched whole at each call.
+"""What crate calendar_test writes, from a reading of document 01 ("Calendar" and the numbers) and of document 02, change 3, that shares nothing with the
+crates: a dictionary of times, searched whole at each call.
 
   python3 tools/calendar.py > crates/calendar_test/stdout
 """

@@ -1,5 +1,5 @@
 // Runs calls on calendars and writes a line for each: the call with its numbers, then its answer. tools/calendar.py writes the same lines from a reading of
-// document 01 that shares nothing with the crates.
+// the documents that shares nothing with the crates.
 ghost use mathlib.Core.Path.{_≡_};
 ghost use Prim.Native.Nat.{_-_, _≤_};
 ghost use lib.ListN.{length, take, drop};
