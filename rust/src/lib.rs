@@ -204,7 +204,7 @@ impl<'b> Engine<'b> {
         32_768 + 256 * stations + 256 * capacity
     }
 
-    /// Opens a plan, with a calendar of that leaf width. Refusals: 1 to 5, 6, 7.
+    /// Opens a plan, with a calendar of that leaf width. No answer of a call after it depends on the width, or on what the buffer held. Refusals: 1 to 5, 6, 7.
     pub fn open(plan: &(impl AsRef<[u8]> + ?Sized), width: u64, capacity: u64, buffer: &'b mut [u8]) -> Result<Engine<'b>, Refusal> {
         calls::open(plan.as_ref(), width, capacity, buffer)?;
         Ok(Engine { bytes: buffer })
