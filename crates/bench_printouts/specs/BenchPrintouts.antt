@@ -1,4 +1,4 @@
--- "Installers compare two printouts of one plan" (document 02, change 3): what the bench prints for a plan and an input, whatever its buffers held.
+-- A printout of the bench: what it prints for a plan and an input, whatever its buffers held (document 02, change 3).
 use mathlib.Core.Path.{_≡_}
 use mathlib.Core.List.{List}
 use Prim.Native.Nat.{ℕ}

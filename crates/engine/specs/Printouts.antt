@@ -1,4 +1,4 @@
--- "two printouts of one plan" (document 02, change 3): they are the same, whatever the two buffers held before and whatever leaf width each has.
+-- Two printouts of one plan are the same, whatever the two buffers held before and whatever leaf width each has (document 02, change 3).
 use mathlib.Core.List.{List}
 use Prim.Native.Nat.{ℕ}
 use Rattle.rules.specs.Demand.{Made}

@@ -77,7 +77,7 @@ timeOf (some x) = at (x .time)
 unfoldable pub registered : List Held → ℕ → Registered
 registered h s = timeOf (leastUnrun s h)
 
--- s has the least registered time, and is "the lowest-numbered of these" (document 02, change 3)
+-- s has the least registered time and is the lowest-numbered that has it: "Extract and run lowest follow" (document 02, change 3)
 pub record Lowest (h : List Held) (s : ℕ) : Type 0 where
   pub time : ℕ
   pub is : registered h s ≡ at time
