@@ -1,6 +1,6 @@
 #!/usr/bin/env python3
-"""What crate calendar_test writes, from a reading of document 01 ("Calendar" and the numbers) and of document 02, change 3, that shares nothing with the
-crates: a dictionary of times, searched whole at each call.
+"""What crate calendar_test writes, from a reading of document 01 ("Calendar" and the numbers) and of document 02, changes 3 and 5, that shares nothing with
+the crates: a dictionary of times, searched whole at each call.
 
   python3 tools/calendar.py > crates/calendar_test/stdout
 """
@@ -13,17 +13,17 @@ def no(n):
 
 
 class Calendar:
-    """Widths and the ring play no part in what the calls answer."""
+    """Width and ring play a part in the count of words read alone."""
 
     def __init__(self):
-        self.n, self.floor, self.times = 0, 0, {}
+        self.n, self.w, self.floor, self.times = 0, 1, 0, {}
 
     def open(self, n, w, size):
         if not 1 <= w <= 1048576:
             return no(6)
         if not 1 <= n <= 256 or size < 32768 + 64 * n:
             return no(7)
-        self.n, self.floor, self.times = n, 0, {}
+        self.n, self.w, self.floor, self.times = n, w, 0, {}
         return "ok"
 
     def register(self, s, t):
@@ -42,11 +42,19 @@ class Calendar:
         self.times.pop(s, None)
         return "ok"
 
+    def words(self):
+        """One root word for each block from the floor's on, to the first in which a time lies, and a node word; 16 where there is none in 16 blocks."""
+        first = self.floor // (256 * self.w)
+        for block in range(first, first + 16):
+            if any(t // (256 * self.w) == block for t in self.times.values()):
+                return block - first + 1 + 1
+        return 16
+
     def lowest(self):
         if not self.times:
             return no(14)
         s = min(self.times, key=lambda s: (self.times[s], s))
-        return "%d %d" % (s, self.times[s])
+        return "%d %d %d" % (s, self.times[s], self.words())
 
     def extract(self):
         answer = self.lowest()
@@ -191,6 +199,28 @@ register 0 70001
 lowest
 register 0 70000
 lowest
+""")
+
+# words read, of one time and of three
+script("open 4 64 33024\nlowest")
+for time in (0, 16383, 16384, 245759, 245760, 262143, 262144):
+    script("register 1 %d\nlowest" % time)
+for floor in (16383, 16384, 245760, 262144):
+    script("advance %d\nlowest" % floor)
+script("""
+extract
+extract
+open 4 64 33024
+advance 16384
+register 1 278528
+lowest
+register 2 278527
+lowest
+register 3 16384
+extract
+extract
+extract
+extract
 open 4 64 33100
 register 2 77
 lowest

@@ -15,7 +15,7 @@ use Rattle.calendar_buckets.specs.Cells.{halfAt}
 use Rattle.calendar_buckets.specs.Table.{dueOf, bucketOf, nodeWord, rootOf, bucketHead, Due, Table}
 use Rattle.calendar_buckets.proofs.TreeLaws.{set-above, some-above, some-below}
 use Rattle.calendar_buckets.proofs.Heads.{head-station, head-some}
-use Rattle.calendar.specs.Ring.{slotOfTime, leafIn, ringEnd}
+use Rattle.calendar_ring.specs.Ring.{slotOfTime, leafIn, ringEnd}
 use Rattle.calendar.specs.Rules.{Calendar}
 use Rattle.calendar.specs.Bytes.{widthOf, limitOf, Sound, stateOf}
 use Rattle.calendar.proofs.States.{time-at, time-of}
@@ -36,7 +36,7 @@ pub record RegisteredIn (q : Calendar) (r : ℕ) (P : ℕ → Type 0) : Type 0 w
 abbrev pub AllBytes : List ℕ → Type 0
 AllBytes xs = (j : ℕ) → getD xs j 0 < 256
 
-half-lt : (k : ℕ) (xs : List ℕ) → AllBytes xs → halfAt k xs < 65536
+pub half-lt : (k : ℕ) (xs : List ℕ) → AllBytes xs → halfAt k xs < 65536
 unfolding halfAt
 half-lt k xs b = load-lt 2 (2112 + 2 * k) xs b
 

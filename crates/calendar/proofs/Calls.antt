@@ -6,7 +6,7 @@ use Rattle.refusal.specs.Tests.{Check, judged}
 use Rattle.calendar.specs.declared.Answer.{Answer}
 use Rattle.calendar.specs.declared.Least.{Least}
 use Rattle.calendar.specs.declared.Least.the-variants.{At}
-use Rattle.calendar.specs.Rules.{Calendar, lowestChecks, LeastAt, unregistered, registeredAt, advanced}
+use Rattle.calendar.specs.Rules.{Calendar, lowestChecks, LeastAt, wordsOf, unregistered, registeredAt, advanced}
 use Rattle.calendar.specs.Bytes.{Sound, stateOf}
 use Rattle.calendar.specs.Promises.{verdictOf, leastVerdict, Obeys, Names}
 use Rattle.calendar.specs.Left.{Left, by-open, by-register, by-unregister, by-extract, by-advance, by-refusal, by-none, by-no-open}
@@ -16,7 +16,7 @@ pub left : {xs : List ℕ} {q : Calendar} → Left xs q → Sound xs × (stateOf
 left (by-open n w P) = (P .sound refl, P .state refl)
 left (by-register s t L P) = let H = left L in (P .sound (H .0), P .state (H .0) refl ∙ ap (λ (p : Calendar). registeredAt p s t) (H .1))
 left (by-unregister s L P) = let H = left L in (P .sound (H .0), P .state (H .0) refl ∙ ap (λ (p : Calendar). unregistered p s) (H .1))
-left (by-extract s t L P) = let H = left L in (P .sound (H .0), P .state (H .0) s t refl ∙ ap (λ (p : Calendar). unregistered p s) (H .1))
+left (by-extract s t c L P) = let H = left L in (P .sound (H .0), P .state (H .0) s t c refl ∙ ap (λ (p : Calendar). unregistered p s) (H .1))
 left (by-advance f L P) = let H = left L in (P .sound (H .0), P .state (H .0) refl ∙ ap (λ (p : Calendar). advanced p f) (H .1))
 left (by-refusal e checks after L P) = let H = left L in (P .sound (H .0), ap stateOf (P .refusal e refl) ∙ H .1)
 left (by-none e L P) = let H = left L in (P .sound (H .0), ap stateOf (P .refusal e refl) ∙ H .1)
@@ -27,11 +27,11 @@ pub left-answer : {xs ys : List ℕ} {q : Calendar} {checks : Calendar → List 
     → Obeys checks after xs r ys → verdictOf r ≡ judged (checks q)
 left-answer {checks = checks} L P = let H = left L in P .answer (H .0) ∙ ap (λ (p : Calendar). judged (checks p)) (H .1)
 
--- and so are lowest and extract
+-- and so are lowest and extract, and the count is that of it
 pub left-names : {xs : List ℕ} {q : Calendar} {r : Least} → Left xs q → Names xs r
-    → (leastVerdict r ≡ judged (lowestChecks q)) × ((s t : ℕ) → r ≡ At s t → LeastAt (q .times) s t)
+    → (leastVerdict r ≡ judged (lowestChecks q)) × ((s t c : ℕ) → r ≡ At s t c → LeastAt (q .times) s t × (c ≡ wordsOf q))
 left-names L P =
     let H = left L in (
       P .answer (H .0) ∙ ap (λ (p : Calendar). judged (lowestChecks p)) (H .1),
-      λ s t e. subst (λ (p : Calendar). LeastAt (p .times) s t) (H .1) (P .least (H .0) s t e),
+      λ s t c e. (subst (λ (p : Calendar). LeastAt (p .times) s t) (H .1) (P .least (H .0) s t c e), P .words (H .0) s t c e ∙ ap wordsOf (H .1)),
     )

@@ -7,7 +7,7 @@ use native.Mathlib.Omega.{arith}
 use Rattle.calendar_buckets.specs.Table.{dueOf, bucketOf, Due}
 use Rattle.calendar_buckets.specs.Promises.{bucketFor, Kept, Changed, Gone, Placed}
 use Rattle.words.proofs.Cases.{eq-or}
-use Rattle.calendar.specs.Ring.{blockOf, slotOfTime, ringEnd, leafFor}
+use Rattle.calendar_ring.specs.Ring.{blockOf, slotOfTime, ringEnd, leafFor}
 use Rattle.calendar.specs.Bytes.{widthOf, floorOf, ringStart, endOf, limitOf, slotIn, countOf, homeOf, Header, Sound}
 use Rattle.calendar.specs.Steps.{Entered}
 

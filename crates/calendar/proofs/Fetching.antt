@@ -7,7 +7,7 @@ use native.Mathlib.Omega.{arith}
 use Rattle.calendar_buckets.specs.Table.{dueOf, bucketOf, Due, Table}
 use Rattle.calendar_buckets.specs.Promises.{bucketFor, Kept, Placed, Waits, Later}
 use Rattle.words.proofs.Cases.{eq-or, lt-or}
-use Rattle.calendar.specs.Ring.{leafFor}
+use Rattle.calendar_ring.specs.Ring.{leafFor}
 use Rattle.calendar.specs.Bytes.{widthOf, floorOf, limitOf, homeOf}
 use Rattle.calendar.specs.Steps.{Settling, Same, Moved, Settled}
 use Rattle.calendar.proofs.Leaves.{bucket-own}

@@ -11,13 +11,13 @@ use Rattle.calendar_buckets.specs.Cells.{wordAt, putWord}
 use Rattle.calendar_buckets.specs.Table.{dueOf, bucketOf, Due}
 use Rattle.calendar_buckets.specs.Promises.{bucketFor}
 use Rattle.words.proofs.Cases.{lt-or}
-use Rattle.calendar.specs.Ring.{blockOf, leafFor}
+use Rattle.calendar_ring.specs.Ring.{blockOf, leafFor}
+use Rattle.calendar_ring.proofs.Blocks.{div-mono}
 use Rattle.calendar.specs.Bytes.{widthOf, floorOf, endOf, limitOf, countOf, homeOf, Header, Sound, stateOf}
 use Rattle.calendar.specs.Rules.{anyBefore}
 use Rattle.calendar.specs.Steps.{Settling, Settled, Risen}
 use Rattle.calendar.proofs.Tests.{true-false, any-true}
 use Rattle.calendar.proofs.States.{time-at}
-use Rattle.calendar.proofs.Leaves.{div-mono}
 use Rattle.calendar.proofs.Order.{home-in, home-over}
 use Rattle.calendar.proofs.Writing.{putAt, Written, written-start, written-put, header-is}
 

@@ -2,14 +2,15 @@
 use mathlib.Core.Path.{_≡_, sym, ap, ap₂, _∙_, subst}
 use mathlib.Core.List.{List}
 use Prim.Native.Nat.{ℕ, _+_, _-_, _*_, _/_, _%_, _≤_, _<_}
-use native.Mathlib.Nat.{mul-pos, mul-comm, mul-assoc, add-mul, le-trans, mod-eq-of-lt}
-use native.Mathlib.Nat.{div-mul-le-self, le-div-iff-mul-le, div-lt-iff-lt-mul, div-div-eq-div-mul, mul-add-div-right}
+use native.Mathlib.Nat.{mul-pos, mul-comm, mul-assoc, add-mul, mod-eq-of-lt}
+use native.Mathlib.Nat.{div-mul-le-self, div-lt-iff-lt-mul, div-div-eq-div-mul, mul-add-div-right}
 use native.Mathlib.Omega.{arith}
 use lib.Dec.{lit<}
 use lib.Arith.{mod-mul}
 use borrow.Author.Tests.{lt-ltb, le-ltb}
 use Rattle.calendar_buckets.specs.Promises.{bucketFor}
-use Rattle.calendar.specs.Ring.{blockOf, leafFor}
+use Rattle.calendar_ring.specs.Ring.{blockOf, leafFor}
+use Rattle.calendar_ring.proofs.Blocks.{div-mono}
 use Rattle.calendar.specs.Bytes.{widthOf, floorOf, ringStart, limitOf, slotIn, Header}
 
 pub leaf-in : (w end t : ℕ) → t < end → leafFor 16 w end t ≡ t / w % 4096
@@ -32,9 +33,6 @@ unfolding bucketFor
 bucket-own l s h = rw (le-ltb l 4096 h)
 
 -- ---- the numbers of the ring
-
-pub div-mono : (k : ℕ) → 0 < k → (x y : ℕ) → x ≤ y → x / k ≤ y / k
-div-mono k p x y h = le-div-iff-mul-le p .1 (le-trans (div-mul-le-self x k) h)
 
 -- a time of the ring lies fewer than 4096 leaf widths after the start of the floor's block
 pub ring-turns : (w floor t : ℕ) → 0 < w → floor ≤ t → t < (blockOf 16 w floor + 16) * (w * 256)

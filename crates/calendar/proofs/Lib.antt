@@ -12,5 +12,6 @@ pub mod Floor
 pub mod Fetching
 pub mod Opening
 pub mod Bits
+pub mod RootWords
 pub mod Calls
 pub mod OneName

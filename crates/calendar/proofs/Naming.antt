@@ -1,11 +1,12 @@
 -- What `lowest`, `extract` and `early` answer for the first station.
 use mathlib.Core.Path.{_≡_, refl, sym, ap, _∙_, subst}
 use mathlib.Core.Bool.{Bool, true, false}
+use mathlib.Core.Logic.{_⊎_, inl, inr}
 use mathlib.Core.Option.{none, some}
 use mathlib.Core.List.{List}
 use Prim.Native.Nat.{ℕ, suc, _+_, _-_, _*_, _≤_, _<_}
 use native.Mathlib.Omega.{arith}
-use lib.Dec.{ltb}
+use lib.Dec.{ltb, lit<}
 use lib.ListN.{getD}
 use Rattle.refusal.specs.declared.Refusal.{Refusal}
 use Rattle.refusal.specs.declared.Refusal.the-variants.{Idle}
@@ -16,9 +17,13 @@ use Rattle.calendar_buckets.specs.Lists.{rankOf}
 use Rattle.calendar_buckets.specs.Table.{dueOf, Table}
 use Rattle.calendar_buckets.specs.Promises.{Kept, Gone}
 use Rattle.calendar_buckets.proofs.Places.{rank-station}
+use Rattle.words.proofs.Cases.{lt-or}
+use Rattle.calendar_ring.specs.Ring.{blockOf, ringEnd}
+use Rattle.calendar_ring.specs.WordsRead.{wordsRead}
+use Rattle.calendar_ring.proofs.WordLaws.{words-ring, words-over}
 use Rattle.calendar.specs.declared.Least.the-variants.{At, Refused}
-use Rattle.calendar.specs.Rules.{noneRegistered, anyBefore, lowestChecks, LeastAt, unregistered}
-use Rattle.calendar.specs.Bytes.{countOf, Sound, timeFor, stateOf}
+use Rattle.calendar.specs.Rules.{noneRegistered, anyBefore, lowestChecks, LeastAt, wordsOf, unregistered}
+use Rattle.calendar.specs.Bytes.{widthOf, floorOf, limitOf, countOf, Sound, timeFor, timesFrom, stateOf}
 use Rattle.calendar.specs.Promises.{Names, Extracts}
 use Rattle.calendar.specs.Steps.{FirstOf, Entered}
 use Rattle.calendar.proofs.Tests.{none-false, any-least, any-none}
@@ -49,11 +54,13 @@ refused-idle xs n e = go (noneRegistered (stateOf xs .times)) refl
 names-none : (xs : List ℕ) → (Sound xs → noneRegistered (stateOf xs .times) ≡ true) → Names xs (Refused Idle)
 names-none xs h = record {
   idle = λ e q. let z : Idle ≡ e = cc in sym z;
+  most = λ s t c e. absurd (let z : _≡_ {A = ℕ} 0 1 = cc in omega arith);
   answer = λ S. idle xs (h S);
-  least = λ S s t e. absurd (let z : _≡_ {A = ℕ} 0 1 = cc in omega arith);
+  least = λ S s t c e. absurd (let z : _≡_ {A = ℕ} 0 1 = cc in omega arith);
+  words = λ S s t c e. absurd (let z : _≡_ {A = ℕ} 0 1 = cc in omega arith);
 }
 
-module _ (xs : List ℕ) (h : ℕ) (F : Sound xs → FirstOf xs h) where
+module _ (xs : List ℕ) (h words : ℕ) (F : Sound xs → FirstOf xs h words) where
   pub names-idle : h ≡ 0 → Names xs (Refused Idle)
   names-idle z = names-none xs (λ S. none-due xs S (F S .none z))
 
@@ -68,14 +75,17 @@ module _ (xs : List ℕ) (h : ℕ) (F : Sound xs → FirstOf xs h) where
     pub names-lost : d ≡ 0 → Names xs (Refused Idle)
     names-lost z = names-none xs (λ S. absurd (F S .some (h - 1) front .1 (sym due-is ∙ z)))
 
-    pub names-at : (d ≡ 0 → ⊥) → Names xs (At (h - 1) (d - 1))
-    names-at dz = record {
+    pub names-at : words ≤ 17 → (d ≡ 0 → ⊥) → Names xs (At (h - 1) (d - 1) words)
+    unfolding stateOf
+    names-at lw dz = record {
       idle = λ e q. let z : _≡_ {A = ℕ} 0 1 = cc in absurd (omega arith);
+      most = λ s t c e. let ec : words ≡ c = cc in subst (λ (y : ℕ). y ≤ 17) ec lw;
       answer = λ S. busy xs (none-false (stateOf xs .times) (h - 1) (d - 1) (has S));
-      least = λ S s t e.
+      least = λ S s t c e.
           let es : h - 1 ≡ s = cc in
           let et : d - 1 ≡ t = cc in
           subst (λ (y : ℕ). LeastAt (stateOf xs .times) y t) es (subst (λ (y : ℕ). LeastAt (stateOf xs .times) (h - 1) y) et (leads S));
+      words = λ S s t c e. let ec : words ≡ c = cc in sym ec ∙ count S;
     }
       where
         has : Sound xs → getD (stateOf xs .times) (h - 1) none ≡ some (d - 1)
@@ -95,11 +105,35 @@ module _ (xs : List ℕ) (h : ℕ) (F : Sound xs → FirstOf xs h) where
                 let r : rankOf (dueOf xs) (h - 1) ≤ rankOf (dueOf xs) x = F S .some (h - 1) front .2 x (k .1) (λ z. absurd (omega (arith, k .2))) in
                 omega (arith, due-is, k .2, rank-station (dueOf xs) (h - 1) (omega arith), rank-station (dueOf xs) x (k .1))
 
+        -- the count is that of the least time
+        count : Sound xs → words ≡ wordsOf (stateOf xs)
+        count S = go (lt-or (d - 1) (limitOf xs))
+          where
+            L : LeastAt (stateOf xs .times) (h - 1) (d - 1)
+            L = leads S
+
+            up : floorOf xs ≤ d - 1
+            up = omega (arith, due-is, S .since (h - 1) (omega arith) (λ z. dz (due-is ∙ z)))
+
+            end : limitOf xs ≡ ringEnd 16 (widthOf xs) (floorOf xs)
+            end = S .header .limit-is
+
+            go : (d - 1 < limitOf xs) ⊎ (limitOf xs ≤ d - 1) → words ≡ wordsRead 16 (widthOf xs) (floorOf xs) (timesFrom (dueOf xs) 0 (countOf xs))
+            go (inl l) =
+                F S .ring (h - 1) front (subst (λ (y : ℕ). y - 1 < limitOf xs) due-is l)
+                ∙ ap (λ (y : ℕ). blockOf 16 (widthOf xs) (y - 1) - blockOf 16 (widthOf xs) (floorOf xs) + 2) (sym due-is)
+                ∙ sym (words-ring 16 (widthOf xs) (floorOf xs) (lit< tt) (S .header .width-pos) _ (h - 1) (d - 1) (L .has) (L .least) up
+                (subst (λ (y : ℕ). d - 1 < y) end l))
+            go (inr l) =
+                F S .over (h - 1) front (subst (λ (y : ℕ). limitOf xs ≤ y - 1) due-is l)
+                ∙ sym (words-over 16 (widthOf xs) (floorOf xs) (lit< tt) (S .header .width-pos) _ (h - 1) (d - 1) (L .has) (L .least) up
+                (subst (λ (y : ℕ). y ≤ d - 1) end l))
+
 -- ---- early
 
 module _ (xs : List ℕ) (f : ℕ) (S : Sound xs) where
-  pub early-at : (s t : ℕ) → Names xs (At s t) → ltb t f ≡ anyBefore f (stateOf xs .times)
-  early-at s t N = any-least f (stateOf xs .times) s t (N .least S s t refl)
+  pub early-at : (s t c : ℕ) → Names xs (At s t c) → ltb t f ≡ anyBefore f (stateOf xs .times)
+  early-at s t c N = any-least f (stateOf xs .times) s t (N .least S s t c refl)
 
   pub early-none : (e : Refusal) → Names xs (Refused e) → false ≡ anyBefore f (stateOf xs .times)
   early-none e N = any-none f (stateOf xs .times) (refused-idle xs (numberOf e) (N .answer S))
@@ -110,23 +144,23 @@ pub extract-none : (xs : List ℕ) (e : Refusal) → Names xs (Refused e) → Ex
 extract-none xs e N = record {
   refusal = λ _ _. refl;
   names = N;
-  state = λ S s t q. absurd (let z : _≡_ {A = ℕ} 0 1 = cc in omega arith);
+  state = λ S s t c q. absurd (let z : _≡_ {A = ℕ} 0 1 = cc in omega arith);
   sound = λ S. S;
 }
 
-pub extract-at : (xs ys : List ℕ) (s t : ℕ) → Names xs (At s t) → Kept xs ys → (Table xs → s < 256 → Gone s xs ys) → Extracts xs (At s t) ys
+pub extract-at : (xs ys : List ℕ) (s t c : ℕ) → Names xs (At s t c) → Kept xs ys → (Table xs → s < 256 → Gone s xs ys) → Extracts xs (At s t c) ys
 unfolding timeFor
-extract-at xs ys s t N K G = record {
+extract-at xs ys s t c N K G = record {
   refusal = λ e q. absurd (let z : _≡_ {A = ℕ} 0 1 = cc in omega arith);
   names = N;
-  state = λ S u v q.
+  state = λ S u v k q.
       let es : s ≡ u = cc in
       state-entered xs ys S s 0 (named S .0) (gone S) ∙ ap (unregistered (stateOf xs)) es;
   sound = λ S. gone S .sound;
 }
   where
     named : Sound xs → (s < countOf xs) × (s < 256) × (dueOf xs s ≡ suc t)
-    named S = time-of xs S s t (N .least S s t refl .has)
+    named S = time-of xs S s t (N .least S s t c refl .has)
 
     gone : Sound xs → Entered s 0 xs ys
     gone S = entered-gone xs ys S K s (G (S .table) (named S .1))

@@ -17,7 +17,7 @@ use Rattle.calendar_buckets.specs.Cells.{wordAt, putWord}
 use Rattle.calendar_buckets.specs.Table.{dueOf}
 use Rattle.calendar_buckets.specs.Promises.{Cleared}
 use Rattle.calendar.specs.declared.Answer.the-variants.{Done, Refused}
-use Rattle.calendar.specs.Ring.{blockOf}
+use Rattle.calendar_ring.specs.Ring.{blockOf}
 use Rattle.calendar.specs.Rules.{openChecks, openedCalendar}
 use Rattle.calendar.specs.Bytes.{widthOf, floorOf, countOf, Header, Sound, timesFrom, stateOf}
 use Rattle.calendar.specs.Promises.{OpensCalendar}

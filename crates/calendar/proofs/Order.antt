@@ -3,16 +3,18 @@ use mathlib.Core.Path.{_≡_, ap, _∙_, subst}
 use mathlib.Core.Logic.{_⊎_, inl, inr}
 use mathlib.Core.List.{List}
 use Prim.Native.Nat.{ℕ, suc, _+_, _-_, _*_, _/_, _%_, _≤_, _<_}
+use native.Mathlib.Nat.{div-div-eq-div-mul}
 use native.Mathlib.Omega.{arith}
 use Rattle.calendar_buckets.specs.Lists.{rankOf}
 use Rattle.calendar_buckets.specs.Table.{dueOf, bucketOf, Due}
-use Rattle.calendar_buckets.specs.Promises.{bucketFor, turnsTo, NotAfter, First, Waits}
+use Rattle.calendar_buckets.specs.Promises.{bucketFor, turnsTo, blocksTo, NotAfter, First, Waits}
 use Rattle.words.proofs.Cases.{eq-or, lt-or}
 use Rattle.calendar_buckets.proofs.Places.{rank-station}
-use Rattle.calendar.specs.Ring.{blockOf, leafFor}
+use Rattle.calendar_ring.specs.Ring.{blockOf, leafFor}
+use Rattle.calendar_ring.proofs.Blocks.{div-mono}
 use Rattle.calendar.specs.Bytes.{widthOf, floorOf, limitOf, slotIn, Sound}
 use Rattle.calendar.specs.Steps.{FirstOf, Nearest}
-use Rattle.calendar.proofs.Leaves.{leaf-in, leaf-over, bucket-leaf, bucket-own, div-mono, ring-turns}
+use Rattle.calendar.proofs.Leaves.{leaf-in, leaf-over, bucket-leaf, bucket-own, ring-turns}
 
 -- ---- the bucket of a time
 
@@ -30,6 +32,10 @@ module _ (w end t x : ℕ) where
 -- how many leaves a time's leaf lies after the start of the floor's block
 turns-are : (b k slot : ℕ) → b * 256 ≤ k → k < b * 256 + 4096 → slot ≡ b % 16 → turnsTo slot (k % 4096) ≡ k - b * 256
 turns-are b k slot lo hi e = omega arith
+
+-- how many blocks
+blocks-are : (b k slot : ℕ) → b * 256 ≤ k → k < b * 256 + 4096 → slot ≡ b % 16 → blocksTo slot (k % 4096) ≡ k / 256 - b
+blocks-are b k slot lo hi e = omega arith
 
 rank-before : (due : ℕ → ℕ) (h x : ℕ) → h < 256 → x < 256 → due h < due x → rankOf due h ≤ rankOf due x
 rank-before due h x lh lx q = rw (rank-station due h lh, rank-station due x lx) (omega arith)
@@ -62,6 +68,16 @@ module _ (xs : List ℕ) (S : Sound xs) where
       ap (turnsTo (slotIn xs)) (R .1)
       ∙ turns-are (blockOf 16 (widthOf xs) (floorOf xs)) ((dueOf xs x - 1) / widthOf xs) (slotIn xs) (T .0) (T .1) (S .header .slot-is)
 
+  blocks-of : (x : ℕ) → x < 256 → Due xs x → bucketOf xs x < 4096
+      → blocksTo (slotIn xs) (bucketOf xs x) ≡ blockOf 16 (widthOf xs) (dueOf xs x - 1) - blockOf 16 (widthOf xs) (floorOf xs)
+  blocks-of x l r b =
+      let R = in-ring x l r b in
+      let T = ring-turns (widthOf xs) (floorOf xs) (dueOf xs x - 1) (S .header .width-pos) (omega (arith, S .since x l r))
+      (subst (λ (y : ℕ). dueOf xs x - 1 < y) (S .header .limit-is) (R .0)) in
+      ap (blocksTo (slotIn xs)) (R .1)
+      ∙ blocks-are (blockOf 16 (widthOf xs) (floorOf xs)) ((dueOf xs x - 1) / widthOf xs) (slotIn xs) (T .0) (T .1) (S .header .slot-is)
+      ∙ ap (λ (y : ℕ). y - blockOf 16 (widthOf xs) (floorOf xs)) (div-div-eq-div-mul (dueOf xs x - 1) (widthOf xs) 256)
+
   -- an earlier leaf in ring order has an earlier time
   earlier : (h x : ℕ) → h < 256 → x < 256 → Due xs h → Due xs x → bucketOf xs h < 4096 → bucketOf xs x < 4096
       → turnsTo (slotIn xs) (bucketOf xs h) < turnsTo (slotIn xs) (bucketOf xs x) → dueOf xs h < dueOf xs x
@@ -85,10 +101,14 @@ module _ (xs : List ℕ) (S : Sound xs) where
   slot-mod slot e = omega (arith, S .header .slot-is)
 
   -- where a leaf is filled, the first in the leaves is the first
-  pub first-leaves : (slot r : ℕ) → slot ≡ slotIn xs → First xs (slot % 16 % 16) r → (r ≡ 0 → ⊥) → FirstOf xs r
-  first-leaves slot r es F nz = record {
+  pub first-leaves : (slot r words : ℕ) → slot ≡ slotIn xs → First xs (slot % 16 % 16) r words → (r ≡ 0 → ⊥) → FirstOf xs r words
+  first-leaves slot r words es F nz = record {
     none = λ z. absurd (nz z);
     some = λ h e. (F .some h e .0, F .some h e .1, λ x lx rx. go h e x lx rx (lt-or (bucketOf xs x) 4096));
+    ring = λ h e _.
+        F .read h e ∙ ap (λ (s : ℕ). blocksTo s (bucketOf xs h) + 2) (slot-mod slot es)
+        ∙ ap (λ (y : ℕ). y + 2) (blocks-of h (F .some h e .0) (F .some h e .1) (F .some h e .2));
+    over = λ h e q. absurd (omega (arith, in-ring h (F .some h e .0) (F .some h e .1) (F .some h e .2) .0));
   }
     where
       go : (h : ℕ) → r ≡ suc h → (x : ℕ) → x < 256 → Due xs x → (bucketOf xs x < 4096) ⊎ (4096 ≤ bucketOf xs x) → rankOf (dueOf xs) h ≤ rankOf (dueOf xs) x
@@ -101,10 +121,12 @@ module _ (xs : List ℕ) (S : Sound xs) where
           rank-before (dueOf xs) h x (f .0) lx (omega (arith, f .1, over-ring x lx rx b, R .0))
 
   -- where none is, the nearest of the overflow table
-  pub first-over : (slot r r′ : ℕ) → First xs slot r → r ≡ 0 → Nearest xs 256 r′ → FirstOf xs r′
-  first-over slot r r′ F z N = record {
+  pub first-over : (slot r words r′ : ℕ) → First xs slot r words → r ≡ 0 → Nearest xs 256 r′ → FirstOf xs r′ words
+  first-over slot r words r′ F z N = record {
     none = λ e x lx. go e x lx (eq-or (dueOf xs x) 0);
     some = λ h e. (N .some h e .0, N .some h e .1 .0, λ x lx rx. N .some h e .2 x lx lx (waits x lx rx));
+    ring = λ h e q. absurd (omega (arith, over-ring h (N .some h e .0) (N .some h e .1 .0) (omega (arith, N .some h e .1 .1))));
+    over = λ h e _. F .roots z;
   }
     where
       waits : (x : ℕ) → x < 256 → Due xs x → Waits xs x

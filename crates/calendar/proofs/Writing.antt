@@ -14,7 +14,7 @@ use Rattle.calendar_buckets.specs.Table.{dueOf, bucketOf, Table}
 use Rattle.words.proofs.Cases.{eq-or}
 use Rattle.calendar_buckets.proofs.CellLaws.{length-word, word-same, word-other}
 use Rattle.calendar_buckets.proofs.Header.{header-due, header-bucket, header-table}
-use Rattle.calendar.specs.Ring.{blockOf, slotOfTime, ringEnd}
+use Rattle.calendar_ring.specs.Ring.{blockOf, slotOfTime, ringEnd}
 use Rattle.calendar.specs.Bytes.{widthOf, floorOf, ringStart, endOf, limitOf, slotIn, countOf, Header}
 
 -- the words g with v at i

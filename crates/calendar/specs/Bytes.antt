@@ -8,7 +8,7 @@ use Rattle.refusal.specs.Tests.{horizon}
 use Rattle.calendar_buckets.specs.Cells.{wordAt}
 use Rattle.calendar_buckets.specs.Table.{dueOf, bucketOf, Due, Table}
 use Rattle.calendar_buckets.specs.Promises.{bucketFor}
-use Rattle.calendar.specs.Ring.{blockOf, slotOfTime, ringEnd, leafFor}
+use Rattle.calendar_ring.specs.Ring.{blockOf, slotOfTime, ringEnd, leafFor}
 use Rattle.calendar.specs.Rules.{Calendar}
 
 -- ---- the header

@@ -15,7 +15,7 @@ pub data Left : List ℕ → Calendar → Type 0 where
       → Left ys (registeredAt q s t)
   by-unregister : {xs ys : List ℕ} {q : Calendar} (s : ℕ) → Left xs q → Obeys (λ p. unregisterChecks p s) (λ p. unregistered p s) xs Done ys
       → Left ys (unregistered q s)
-  by-extract : {xs ys : List ℕ} {q : Calendar} (s t : ℕ) → Left xs q → Extracts xs (At s t) ys → Left ys (unregistered q s)
+  by-extract : {xs ys : List ℕ} {q : Calendar} (s t c : ℕ) → Left xs q → Extracts xs (At s t c) ys → Left ys (unregistered q s)
   by-advance : {xs ys : List ℕ} {q : Calendar} (f : ℕ) → Left xs q → Obeys (λ p. advanceChecks p f) (λ p. advanced p f) xs Done ys
       → Left ys (advanced q f)
   -- refused calls among them

@@ -1,7 +1,7 @@
 -- What each call promises, on any bytes and on a calendar's. `Sound` is what an accepted opening and the calls after it leave; every promise keeps it.
 use mathlib.Core.Path.{_≡_}
 use mathlib.Core.List.{List}
-use Prim.Native.Nat.{ℕ}
+use Prim.Native.Nat.{ℕ, _≤_}
 use lib.ListN.{length}
 use Rattle.refusal.specs.declared.Refusal.{Refusal}
 use Rattle.refusal.specs.declared.Refusal.the-variants.{Idle}
@@ -11,7 +11,7 @@ use Rattle.calendar.specs.declared.Answer.{Answer}
 use Rattle.calendar.specs.declared.Answer.the-variants.{Done, Refused}
 use Rattle.calendar.specs.declared.Least.{Least}
 use Rattle.calendar.specs.declared.Least.the-variants.{At, Refused as NoLeast}
-use Rattle.calendar.specs.Rules.{Calendar, openChecks, openedCalendar, unregistered, lowestChecks, LeastAt}
+use Rattle.calendar.specs.Rules.{Calendar, openChecks, openedCalendar, unregistered, lowestChecks, LeastAt, wordsOf}
 use Rattle.calendar.specs.Bytes.{Sound, stateOf}
 
 -- ---- the number that an answer says
@@ -21,7 +21,7 @@ verdictOf Done = accepted
 verdictOf (Refused e) = refused (numberOf e)
 
 abbrev pub leastVerdict : Least → Verdict
-leastVerdict (At s t) = accepted
+leastVerdict (At s t c) = accepted
 leastVerdict (NoLeast e) = refused (numberOf e)
 
 -- ---- the promises: of the bytes xs at entry, the answer r and the bytes ys at exit
@@ -33,16 +33,18 @@ pub record Obeys (checks : Calendar → List Check) (after : Calendar → Calend
   pub state : Sound xs → r ≡ Done → stateOf ys ≡ after (stateOf xs)
   pub sound : Sound xs → Sound ys
 
--- its refusal is 14, on any bytes
+-- its refusal is 14, and its count "never exceeds 17", on any bytes. "A refusal carries no count"
 pub record Names (xs : List ℕ) (r : Least) : Type 0 where
   pub idle : (e : Refusal) → r ≡ NoLeast e → e ≡ Idle
+  pub most : (s t c : ℕ) → r ≡ At s t c → c ≤ 17
   pub answer : Sound xs → leastVerdict r ≡ judged (lowestChecks (stateOf xs))
-  pub least : Sound xs → (s t : ℕ) → r ≡ At s t → LeastAt (stateOf xs .times) s t
+  pub least : Sound xs → (s t c : ℕ) → r ≡ At s t c → LeastAt (stateOf xs .times) s t
+  pub words : Sound xs → (s t c : ℕ) → r ≡ At s t c → c ≡ wordsOf (stateOf xs)
 
 pub record Extracts (xs : List ℕ) (r : Least) (ys : List ℕ) : Type 0 where
   pub refusal : (e : Refusal) → r ≡ NoLeast e → ys ≡ xs
   pub names : Names xs r
-  pub state : Sound xs → (s t : ℕ) → r ≡ At s t → stateOf ys ≡ unregistered (stateOf xs) s
+  pub state : Sound xs → (s t c : ℕ) → r ≡ At s t c → stateOf ys ≡ unregistered (stateOf xs) s
   pub sound : Sound xs → Sound ys
 
 -- "An opening doesn't depend on what its buffer held before"

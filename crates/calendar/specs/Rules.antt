@@ -6,6 +6,7 @@ use mathlib.Core.List.{List, [], _∷_}
 use Prim.Native.Nat.{ℕ, _≤_}
 use lib.Dec.{ltb}
 use lib.ListN.{length, getD, set, replicate}
+use Rattle.calendar_ring.specs.WordsRead.{wordsRead}
 use Rattle.refusal.specs.Tests.{Check, says, widthOut, calendarSpaceOut, stationOut, timeLate, floorLate, timeEarly}
 
 -- the leaf width, the floor, and for each station absent or the time at which it is registered
@@ -64,6 +65,11 @@ pub record LeastAt (ts : List (Option ℕ)) (s t : ℕ) : Type 0 where
   pub has : getD ts s none ≡ some t
   pub least : (x u : ℕ) → getD ts x none ≡ some u → t ≤ u
   pub first : (x : ℕ) → getD ts x none ≡ some t → s ≤ x
+
+-- "Lowest and extract shall answer how many bitmap words they read" (document 02, change 5): by the leaf width, the floor and the registered times alone.
+-- "Times still in the overflow table add nothing": only the ring's 16 blocks are asked
+abbrev pub wordsOf : Calendar → ℕ
+wordsOf q = wordsRead 16 (q .width) (q .floor) (q .times)
 
 -- ---- advance the floor
 

@@ -2,19 +2,24 @@
 use mathlib.Core.Path.{_≡_}
 use mathlib.Core.Logic.{_⊎_}
 use mathlib.Core.List.{List}
-use Prim.Native.Nat.{ℕ, suc, _+_, _*_, _≤_, _<_}
+use Prim.Native.Nat.{ℕ, suc, _+_, _-_, _*_, _≤_, _<_}
 use lib.ListN.{length}
 use Rattle.calendar_buckets.specs.Lists.{rankOf}
 use Rattle.calendar_buckets.specs.Table.{dueOf, bucketOf, Due, Table}
 use Rattle.calendar_buckets.specs.Promises.{Kept, Waits}
+use Rattle.calendar_ring.specs.Ring.{blockOf}
 use Rattle.calendar.specs.Bytes.{widthOf, floorOf, ringStart, endOf, limitOf, slotIn, countOf, homeOf, Header, Sound}
 
 -- ---- the first station
 
--- r is the station of least due, the lowest-numbered of these, + 1; 0 where none is registered
-pub record FirstOf (xs : List ℕ) (r : ℕ) : Type 0 where
+-- r is the station of least due, the lowest-numbered of these, + 1; 0 where none is registered. words is how many bitmap words are read: the
+-- roots of the blocks from the floor's to its time's, and a node; all 16 roots where its time lies after the ring
+pub record FirstOf (xs : List ℕ) (r words : ℕ) : Type 0 where
   pub none : r ≡ 0 → (x : ℕ) → x < 256 → dueOf xs x ≡ 0
   pub some : (h : ℕ) → r ≡ suc h → (h < 256) × (Due xs h) × ((x : ℕ) → x < 256 → Due xs x → rankOf (dueOf xs) h ≤ rankOf (dueOf xs) x)
+  pub ring : (h : ℕ) → r ≡ suc h → dueOf xs h - 1 < limitOf xs
+      → words ≡ blockOf 16 (widthOf xs) (dueOf xs h - 1) - blockOf 16 (widthOf xs) (floorOf xs) + 2
+  pub over : (h : ℕ) → r ≡ suc h → limitOf xs ≤ dueOf xs h - 1 → words ≡ 16
 
 -- the same among the stations below k of the overflow table
 pub record Nearest (xs : List ℕ) (k r : ℕ) : Type 0 where

@@ -1,5 +1,5 @@
 -- The search of the first filled leaf in ring order: a root that is 0 has no filled leaf below it, and the first children lead to the first leaf.
-use mathlib.Core.Path.{_≡_, sym, ap, _∙_, subst}
+use mathlib.Core.Path.{_≡_, refl, sym, ap, _∙_, subst}
 use mathlib.Core.Logic.{_⊎_, inl, inr}
 use mathlib.Core.List.{List}
 use Prim.Native.Nat.{ℕ, suc, _+_, _-_, _*_, _/_, _%_, _≤_, _<_}
@@ -7,7 +7,7 @@ use native.Mathlib.Omega.{arith}
 use Rattle.calendar_bitmap.specs.Child.{child}
 use Rattle.calendar_bitmap.specs.Promises.{FirstChild}
 use Rattle.calendar_buckets.specs.Table.{bucketOf, nodeWord, rootOf, bucketHead, Due, Table}
-use Rattle.calendar_buckets.specs.Promises.{turnsTo, NotAfter, First}
+use Rattle.calendar_buckets.specs.Promises.{turnsTo, blocksTo, NotAfter, First}
 use Rattle.calendar_buckets.specs.Steps.{FirstLeaf, HeadOf}
 use Rattle.words.proofs.Cases.{eq-or, lt-or}
 use Rattle.calendar_buckets.proofs.TreeLaws.{set-above, some-above, some-below}
@@ -23,8 +23,13 @@ Passed xs slot i = (k : ℕ) → k < 4096 → Filled xs k → 256 * i ≤ turnsT
 pub pass-start : (xs : List ℕ) (slot : ℕ) → Passed xs slot 0
 pass-start xs slot k l f = omega arith
 
-pub pass-end : (xs : List ℕ) (slot i : ℕ) → 16 ≤ i → Passed xs slot i → FirstLeaf xs slot 4096
-pass-end xs slot i h P = record { filled = λ l. absurd (omega arith); first = λ k l f. absurd (let p = P k l f in omega arith) }
+pub pass-end : (xs : List ℕ) (slot i : ℕ) → 16 ≤ i → Passed xs slot i → FirstLeaf xs slot 4096 16
+pass-end xs slot i h P = record {
+  filled = λ l. absurd (omega arith);
+  first = λ k l f. absurd (let p = P k l f in omega arith);
+  roots = λ _. refl;
+  read = λ l. absurd (omega arith);
+}
 
 -- ---- numbers: a leaf's block, node and place
 
@@ -33,6 +38,9 @@ in-block slot i k ls li lk a b = omega arith
 
 turns-in : (slot i k : ℕ) → slot < 16 → i < 16 → k < 4096 → k / 256 ≡ (slot + i) % 16 → turnsTo slot k ≡ 256 * i + k % 256
 turns-in slot i k ls li lk e = omega arith
+
+blocks-in : (slot i k : ℕ) → slot < 16 → i < 16 → k / 256 ≡ (slot + i) % 16 → blocksTo slot k ≡ i
+blocks-in slot i k ls li e = omega arith
 
 module _ (xs : List ℕ) (T : Table xs) where
   -- the bits above a filled leaf
@@ -91,13 +99,15 @@ module _ (xs : List ℕ) (T : Table xs) where
       l-lt : ((slot + i) % 16 * 16 + f) * 16 + g < 4096
       l-lt = let h = lf in let h′ = lg in omega arith
 
+      l-block : (((slot + i) % 16 * 16 + f) * 16 + g) / 256 ≡ (slot + i) % 16
+      l-block = let h = lf in let h′ = lg in omega arith
+
       l-turns : turnsTo slot (((slot + i) % 16 * 16 + f) * 16 + g) ≡ 256 * i + (f * 16 + g)
       l-turns =
           let h = lf in
           let h′ = lg in
-          let q : (((slot + i) % 16 * 16 + f) * 16 + g) / 256 ≡ (slot + i) % 16 = omega arith in
           let m : (((slot + i) % 16 * 16 + f) * 16 + g) % 256 ≡ f * 16 + g = omega arith in
-          turns-in slot i (((slot + i) % 16 * 16 + f) * 16 + g) ls li l-lt q ∙ ap (λ (u : ℕ). 256 * i + u) m
+          turns-in slot i (((slot + i) % 16 * 16 + f) * 16 + g) ls li l-lt l-block ∙ ap (λ (u : ℕ). 256 * i + u) m
 
       -- a filled leaf of that block is not before it
       same-block : (k : ℕ) → k < 4096 → Filled xs k → k / 256 ≡ (slot + i) % 16 → f * 16 + g ≤ k % 256
@@ -121,13 +131,15 @@ module _ (xs : List ℕ) (T : Table xs) where
               ∙ G .before (k % 16) m in
               absurd (omega arith)
 
-      pub pass-stop : FirstLeaf xs slot (((slot + i) % 16 * 16 + f) * 16 + g)
+      pub pass-stop : FirstLeaf xs slot (((slot + i) % 16 * 16 + f) * 16 + g) (i + 2)
       pass-stop = record {
         filled = λ _.
             some-below 16 4352 (nodeWord xs) (bucketHead xs) (((slot + i) % 16 * 16 + f) * 16 + g) (T .tree .leaves) (let h = l-lt in omega arith)
             (ap (λ (m : ℕ). child 16 (nodeWord xs m) ((((slot + i) % 16 * 16 + f) * 16 + g) % 16)) l-div ∙ ap (child 16 (nodeWord xs ((slot + i) % 16 * 16 + f))) l-mod
             ∙ ap (λ (m : ℕ). child 16 m g) (sym ey) ∙ G .set lg);
         first = λ k l fk. (l-lt, go k l fk (eq-or (k / 256) ((slot + i) % 16)));
+        roots = λ h. absurd (omega (arith, l-lt));
+        read = λ _. ap (λ (u : ℕ). u + 2) (sym (blocks-in slot i (((slot + i) % 16 * 16 + f) * 16 + g) ls li l-block));
       }
         where
           go : (k : ℕ) → k < 4096 → Filled xs k → (k / 256 ≡ (slot + i) % 16) ⊎ (k / 256 ≡ (slot + i) % 16 → ⊥)
@@ -148,20 +160,24 @@ module _ (xs : List ℕ) (T : Table xs) where
   same-turns : (slot k l : ℕ) → slot < 16 → k < 4096 → l < 4096 → turnsTo slot k ≡ turnsTo slot l → k ≡ l
   same-turns slot k l ls lk ll e = omega arith
 
-  pub first-none : (slot l : ℕ) → FirstLeaf xs slot l → 4096 ≤ l → First xs slot 0
-  first-none slot l F h = record {
+  pub first-none : (slot l words : ℕ) → FirstLeaf xs slot l words → 4096 ≤ l → First xs slot 0 words
+  first-none slot l words F h = record {
     none = λ _ x lx d. go x lx d (lt-or (bucketOf xs x) 4096);
     some = λ k e. absurd (omega arith);
+    roots = λ _. F .roots h;
+    read = λ k e. absurd (omega arith);
   }
     where
       go : (x : ℕ) → x < 256 → Due xs x → (bucketOf xs x < 4096) ⊎ (4096 ≤ bucketOf xs x) → 4096 ≤ bucketOf xs x
       go x lx d (inl b) = absurd (omega (arith, F .first (bucketOf xs x) b (head-some xs T x lx d) .0))
       go x lx d (inr b) = b
 
-  pub first-some : (slot l r : ℕ) → slot < 16 → l < 4096 → FirstLeaf xs slot l → HeadOf xs l r → First xs slot r
-  first-some slot l r ls ll F H = record {
+  pub first-some : (slot l r words : ℕ) → slot < 16 → l < 4096 → FirstLeaf xs slot l words → HeadOf xs l r → First xs slot r words
+  first-some slot l r words ls ll F H = record {
     none = λ z. absurd (F .filled ll (sym (H .is) ∙ z));
     some = λ h e. let S = H .station h e in (S .0, S .1, rw (S .2) ll, λ x lx d b. go h e x lx d b (eq-or (bucketOf xs x) l));
+    roots = λ z. absurd (F .filled ll (sym (H .is) ∙ z));
+    read = λ h e. F .read ll ∙ ap (λ (y : ℕ). blocksTo slot y + 2) (sym (H .station h e .2));
   }
     where
       go : (h : ℕ) → r ≡ suc h → (x : ℕ) → x < 256 → Due xs x → bucketOf xs x < 4096 → (bucketOf xs x ≡ l) ⊎ (bucketOf xs x ≡ l → ⊥) → NotAfter xs slot h x

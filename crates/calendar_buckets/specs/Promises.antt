@@ -3,7 +3,7 @@ use mathlib.Core.Path.{_≡_}
 use mathlib.Core.Bool.{cond, _&&_}
 use mathlib.Core.Logic.{_⊎_}
 use mathlib.Core.List.{List}
-use Prim.Native.Nat.{ℕ, suc, _+_, _-_, _*_, _%_, _≤_, _<_}
+use Prim.Native.Nat.{ℕ, suc, _+_, _-_, _*_, _/_, _%_, _≤_, _<_}
 use lib.Dec.{ltb, leb}
 use lib.ListN.{length, getD}
 use Rattle.calendar_buckets.specs.Cells.{wordAt}
@@ -40,17 +40,24 @@ bucketFor leaf s = cond (ltb leaf 4096) leaf (4096 + s)
 abbrev pub turnsTo : ℕ → ℕ → ℕ
 turnsTo slot l = (l + 4096 - 256 * slot) % 4096
 
+-- how many blocks leaf l lies after a slot's, in ring order
+abbrev pub blocksTo : ℕ → ℕ → ℕ
+blocksTo slot l = (l / 256 + 16 - slot) % 16
+
 -- station h comes before x or is x: by leaf in ring order, then by due and number
 abbrev pub NotAfter : List ℕ → ℕ → ℕ → ℕ → Type 0
 NotAfter xs slot h x =
     (turnsTo slot (bucketOf xs h) < turnsTo slot (bucketOf xs x))
     ⊎ ((bucketOf xs h ≡ bucketOf xs x) × (rankOf (dueOf xs) h ≤ rankOf (dueOf xs) x))
 
--- r is the first station in the leaves + 1; 0 where no station stands in a leaf
-pub record First (xs : List ℕ) (slot r : ℕ) : Type 0 where
+-- r is the first station in the leaves + 1; 0 where no station stands in a leaf. words is how many bitmap words are read: the roots of the blocks
+-- from the slot's to the station's, and a node; all 16 roots where there is none
+pub record First (xs : List ℕ) (slot r words : ℕ) : Type 0 where
   pub none : r ≡ 0 → (x : ℕ) → x < 256 → Due xs x → 4096 ≤ bucketOf xs x
   pub some : (h : ℕ) → r ≡ suc h
       → (h < 256) × (Due xs h) × (bucketOf xs h < 4096) × ((x : ℕ) → x < 256 → Due xs x → bucketOf xs x < 4096 → NotAfter xs slot h x)
+  pub roots : r ≡ 0 → words ≡ 16
+  pub read : (h : ℕ) → r ≡ suc h → words ≡ blocksTo slot (bucketOf xs h) + 2
 
 -- station x stands in the overflow table
 abbrev pub Waits : List ℕ → ℕ → Type 0

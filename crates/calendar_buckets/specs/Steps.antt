@@ -8,7 +8,7 @@ use Rattle.calendar_buckets.specs.Cells.{wordAt, halfAt}
 use Rattle.calendar_buckets.specs.Lists.{Live, Lists, listOf, rankOf}
 use Rattle.calendar_buckets.specs.Tree.{Tree}
 use Rattle.calendar_buckets.specs.Table.{dueOf, bucketOf, nextPlace, prevPlace, nodeWord, rootOf, bucketHead, Due}
-use Rattle.calendar_buckets.specs.Promises.{turnsTo}
+use Rattle.calendar_buckets.specs.Promises.{turnsTo, blocksTo}
 
 -- the lists are linked, whatever the bits say
 pub record Chained (xs : List ℕ) : Type 0 where
@@ -47,10 +47,12 @@ Raised list xs ys = Refreshed (λ _. bucketHead xs list ≡ 0 → ⊥) list xs y
 abbrev pub Lowered : ℕ → List ℕ → List ℕ → Type 0
 Lowered list xs ys = Refreshed (λ head. head list ≡ 0 → ⊥) list xs ys
 
--- leaf l is filled, and no filled leaf comes before it in ring order; l is 4096 where none is filled
-pub record FirstLeaf (xs : List ℕ) (slot l : ℕ) : Type 0 where
+-- leaf l is filled, and no filled leaf comes before it in ring order; l is 4096 where none is filled. words is how many bitmap words are read
+pub record FirstLeaf (xs : List ℕ) (slot l words : ℕ) : Type 0 where
   pub filled : l < 4096 → bucketHead xs l ≡ 0 → ⊥
   pub first : (k : ℕ) → k < 4096 → (bucketHead xs k ≡ 0 → ⊥) → (l < 4096) × (turnsTo slot l ≤ turnsTo slot k)
+  pub roots : 4096 ≤ l → words ≡ 16
+  pub read : l < 4096 → words ≡ blocksTo slot l + 2
 
 -- r is the first station of a bucket + 1, or 0
 pub record HeadOf (xs : List ℕ) (list r : ℕ) : Type 0 where

@@ -253,11 +253,17 @@ pub fn put(b: &mut [u8], s: usize, due: u64, leaf: usize)
     insert(b, s, due, bucket(leaf, s));
 }
 
+// What a search of the leaves found, and how many bitmap words it read.
+pub struct Searched {
+    pub at: usize,
+    pub words: u64,
+}
+
 // The first leaf in ring order from a slot on that is not empty; 4096 where all are.
-fn first_leaf(b: &[u8], slot: usize) -> usize
+fn first_leaf(b: &[u8], slot: usize) -> Searched
     requires { ⌜ slot < 16 ⌝ }
-    ensures within { λ r. ⌜ r ≤ 4096 ⌝ }
-    ensures first { λ r. ⌜ (Table (now (b .entry)) → FirstLeaf (now (b .entry)) slot r) ⌝ }
+    ensures within { λ r. ⌜ (r .at ≤ 4096) × (r .words ≤ 17) ⌝ }
+    ensures first { λ r. ⌜ (Table (now (b .entry)) → FirstLeaf (now (b .entry)) slot (r .at) (r .words)) ⌝ }
 {
     let mut i: usize = 0;
     while i < 16 {
@@ -266,11 +272,19 @@ fn first_leaf(b: &[u8], slot: usize) -> usize
         if x != 0 {
             let j = r * 16 + first_child(x) as usize;
             let y = half(b, 5121 + j);
-            return j * 16 + first_child(y) as usize;
+            let l = j * 16 + first_child(y) as usize;
+            // i roots that are 0, this one, and a node
+            return Searched {
+                at: l,
+                words: i as u64 + 2,
+            };
         }
         i += 1;
     }
-    4096
+    Searched {
+        at: 4096,
+        words: 16,
+    }
 }
 
 // The first station of a bucket + 1; 0 where the bucket is empty.
@@ -288,19 +302,26 @@ fn head(b: &[u8], list: usize) -> usize
 
 // The first station of the first leaf in ring order from a slot on, by (due, station), + 1; 0 where all leaves are empty or the buffer is shorter
 // than the table.
-pub fn first(b: &[u8], slot: usize) -> usize
-    ensures within { λ r. ⌜ r ≤ 256 ⌝ }
-    ensures short { λ r. ⌜ (length (now (b .entry)) < 12932 → r ≡ 0) ⌝ }
-    ensures first { λ r. ⌜ (Table (now (b .entry)) → First (now (b .entry)) (slot % 16) r) ⌝ }
+pub fn first(b: &[u8], slot: usize) -> Searched
+    ensures within { λ r. ⌜ (r .at ≤ 256) × (r .words ≤ 17) ⌝ }
+    ensures short { λ r. ⌜ (length (now (b .entry)) < 12932 → (r .at ≡ 0) × (r .words ≡ 16)) ⌝ }
+    ensures first { λ r. ⌜ (Table (now (b .entry)) → First (now (b .entry)) (slot % 16) (r .at) (r .words)) ⌝ }
 {
     if b.len() < BYTES {
-        return 0;
+        return Searched { at: 0, words: 16 };
     }
-    let l = first_leaf(b, slot % 16);
+    let f = first_leaf(b, slot % 16);
+    let l = f.at;
     if 4096 <= l {
-        return 0;
+        return Searched {
+            at: 0,
+            words: f.words,
+        };
     }
-    head(b, l)
+    Searched {
+        at: head(b, l),
+        words: f.words,
+    }
 }
 
 // The first station of the overflow table, from a number on; 256 where none is or the buffer is shorter than the table.

@@ -37,10 +37,15 @@ fn tell(a: Answer) {
 
 fn tell_least(l: Least) {
     match l {
-        Least::At { station, time } => {
+        Least::At {
+            station,
+            time,
+            words,
+        } => {
             word(b":");
             number(station);
             number(time);
+            number(words);
             word(b"\n");
         }
         Least::Refused(r) => no(r),
@@ -246,6 +251,54 @@ fn ties() {
     lowest(&b);
 }
 
+// ---- how many bitmap words are read
+
+fn lowest_at(b: &mut [u8], time: u64) {
+    register(b, 1, time);
+    lowest(b);
+}
+
+fn lowest_from(b: &mut [u8], floor: u64) {
+    advance(b, floor);
+    lowest(b);
+}
+
+// One time: at both ends of the ring's first and last blocks, and in the overflow table.
+fn words_read() {
+    let mut b = [165u8; 33024];
+    open(4, 64, &mut b);
+    lowest(&b);
+    lowest_at(&mut b, 0);
+    lowest_at(&mut b, 16383);
+    lowest_at(&mut b, 16384);
+    lowest_at(&mut b, 245759);
+    lowest_at(&mut b, 245760);
+    lowest_at(&mut b, 262143);
+    lowest_at(&mut b, 262144);
+    // an advanced ring comes to cover it, in slot 0
+    lowest_from(&mut b, 16383);
+    lowest_from(&mut b, 16384);
+    lowest_from(&mut b, 245760);
+    lowest_from(&mut b, 262144);
+    extract(&mut b);
+    extract(&mut b);
+}
+
+// A time of the ring's last block, one after the ring, and one of the floor's block.
+fn words_read_of_three() {
+    let mut b = [165u8; 33024];
+    open(4, 64, &mut b);
+    advance(&mut b, 16384);
+    lowest_at(&mut b, 278528);
+    register(&mut b, 2, 278527);
+    lowest(&b);
+    register(&mut b, 3, 16384);
+    extract(&mut b);
+    extract(&mut b);
+    extract(&mut b);
+    extract(&mut b);
+}
+
 // ---- a calendar in a part of a larger buffer
 
 fn register_in(b: &mut [u8], from: usize, to: usize, station: u64, time: u64) -> Answer
@@ -381,6 +434,8 @@ fn main() {
     last_block();
     overflow();
     ties();
+    words_read();
+    words_read_of_three();
     part();
     drawn(5, 1, 9000, 1, 300);
     drawn(256, 64, 400000, 77, 300);

@@ -13,7 +13,7 @@ use Rattle.line.specs.declared.Matter.{Matter}
 use Rattle.line.specs.declared.State.{State}
 use Rattle.line.specs.Station.{Outcome, silent, send, repeat, pass, lose, hear, drawnState, period, runRead, runFrame}
 use Rattle.line.proofs.Either.{either}
-use Rattle.calendar.specs.Ring.{leafFor}
+use Rattle.calendar_ring.specs.Ring.{leafFor}
 use Rattle.plan_format.proofs.Edges as plan
 use Rattle.paper_edges.specs.MarkedEdges.{Marked}
 

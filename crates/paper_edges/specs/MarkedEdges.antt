@@ -8,7 +8,7 @@ use Rattle.generator.specs.Draw.{nextDraw}
 use Rattle.line.specs.declared.Config.{Config}
 use Rattle.line.specs.declared.State.{State}
 use Rattle.line.specs.Station.{period, runRead, runFrame}
-use Rattle.calendar.specs.Ring.{leafAt, ringEnd, leafFor}
+use Rattle.calendar_ring.specs.Ring.{leafAt, ringEnd, leafFor}
 use Rattle.plan_format.specs.declared.ReadAnswer.the-variants.{Stations}
 use Rattle.plan_format.specs.Plan.{offsetOf}
 use Rattle.plan_format.specs.Numbers.{readSays}

@@ -9,7 +9,7 @@ use Rattle.calendar.proofs.early.Tie as tie
 returns : tie.Need-returns
 returns c =
     let args = c .before .before .before .before .before .args in
-    λ S. early-at (args .b .now) (args .floor) S (c .before .at .given .0 .0) (c .before .at .given .0 .1 .0)
+    λ S. early-at (args .b .now) (args .floor) S (c .before .at .given .0 .0) (c .before .at .given .0 .1 .0) (c .before .at .given .0 .1 .1 .0)
     (subst (Names (args .b .now)) (c .before .at .given .1) (c .before .before .before .lowest .ensures))
 
 returns-2 : tie.Need-returns-2

@@ -12,8 +12,8 @@ returns c =
     let lowest = c .before .before .before .before .before .before .before .lowest in
     let at = c .before .before .before .before .before .at in
     let take = c .before .before .take in
-    extract-at (args .b .now) (take .last .0) (at .given .0 .0) (at .given .0 .1 .0) (subst (Names (args .b .now)) (at .given .1) (lowest .ensures))
-    (take .ensures .0) (take .ensures .1 .1)
+    extract-at (args .b .now) (take .last .0) (at .given .0 .0) (at .given .0 .1 .0) (at .given .0 .1 .1 .0)
+    (subst (Names (args .b .now)) (at .given .1) (lowest .ensures)) (take .ensures .0) (take .ensures .1 .1)
 
 returns-2 : tie.Need-returns-2
 returns-2 c =

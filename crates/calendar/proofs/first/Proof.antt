@@ -7,18 +7,19 @@ use Rattle.calendar.proofs.first.Tie as tie
 
 returns : tie.Need-returns
 returns c =
-    let field = c .before .before .field in (
-      c .before .first .ensures .0,
-      λ S. first-leaves (c .before .before .before .before .args .b .now) S (field .result) (c .before .first .result)
-          (field .ensures) (c .before .first .ensures .1 .1 (S .table)) (c .if1 .taken),
+    let field = c .before .before .before .field in
+    let first = c .before .before .first in (
+      first .ensures .0,
+      λ S. first-leaves (c .before .before .before .before .before .args .b .now) S (field .result) (first .result .at) (first .result .words)
+          (field .ensures) (first .ensures .1 .1 (S .table)) (c .if1 .taken),
     )
 
 returns-2 : tie.Need-returns-2
 returns-2 c =
-    let args = c .before .before .before .before .before .args in
-    let first = c .before .before .first in (
-      c .nearest .ensures .0,
-      λ S. first-over (args .b .now) S (c .before .before .before .field .result % 16 % 16) (first .result)
+    let args = c .before .before .before .before .before .before .args in
+    let first = c .before .before .before .first in (
+      (c .nearest .ensures .0, first .ensures .0 .1),
+      λ S. first-over (args .b .now) S (c .before .before .before .before .field .result % 16 % 16) (first .result .at) (first .result .words)
           (c .nearest .result) (first .ensures .1 .1 (S .table)) (c .before .if1 .left) (c .nearest .ensures .1 S),
     )
 

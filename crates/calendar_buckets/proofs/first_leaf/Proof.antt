@@ -37,11 +37,11 @@ add-half-2 c = omega (arith, c .first-child .ensures .within)
 half-requires-2 : tie.Need-half-requires-2 Inv-loop μ-loop
 half-requires-2 c κs = omega (arith, c .first-child .ensures .some (c .before .if1 .taken))
 
-mul-result : tie.Need-mul-result Inv-loop μ-loop
-mul-result c = omega (arith, c .before .first-child .ensures .within)
+mul-l : tie.Need-mul-l Inv-loop μ-loop
+mul-l c = omega (arith, c .before .first-child .ensures .within)
 
-add-result : tie.Need-add-result Inv-loop μ-loop
-add-result c = omega (arith, c .before .before .first-child .ensures .within, c .first-child2 .ensures .within)
+add-l : tie.Need-add-l Inv-loop μ-loop
+add-l c = omega (arith, c .before .before .first-child .ensures .within, c .first-child2 .ensures .within)
 
 returns : tie.Need-returns Inv-loop μ-loop
 returns c =
@@ -52,7 +52,7 @@ returns c =
     let if1 = c .before .before .before .if1 in
     let first-child = c .before .before .first-child in
     let half2 = c .before .half2 in (
-      omega (arith, first-child .ensures .some (if1 .taken), c .first-child2 .ensures .within),
+      (omega (arith, first-child .ensures .some (if1 .taken), c .first-child2 .ensures .within), omega arith),
       λ T. pass-stop _ T _ _ _ (pre) (loop-test .taken) (loop .inv T) (half .ensures) _ _ _ (if1 .taken) (first-child .ensures) (half2 .ensures)
           (c .first-child2 .ensures),
     )
@@ -72,7 +72,7 @@ loop-again c =
     λ T. pass-on _ T _ _ _ (pre) (loop-test .taken) (loop .inv T) (half .ensures) (c .if1 .left)
 
 returns-2 : tie.Need-returns-2 Inv-loop μ-loop
-returns-2 c = (omega arith, λ T. pass-end _ _ _ (c .loop-test .left) (c .before .loop .inv T))
+returns-2 c = ((omega arith, omega arith), λ T. pass-end _ _ _ (c .loop-test .left) (c .before .loop .inv T))
 
 pub first-leaf-spec : {M : Type 1} → statement M
 first-leaf-spec =
@@ -90,10 +90,11 @@ first-leaf-spec =
     add-j
     add-half-2
     half-requires-2
-    mul-result
+    mul-l
     (λ c κs. search needs)
     (λ c. search needs)
-    add-result
+    add-l
+    (λ c. omega arith)
     returns
     add-i
     loop-less
