@@ -61,9 +61,19 @@ def machine(plan, posts, until):
     return log, states
 
 
+def words_read(width, floor, times):
+    """The bitmap words that lowest reads: roots from the floor's block on to the first with a registered time, and a node; the 16 roots where none has one."""
+    first = floor // (256 * width)
+    taken = {t // (256 * width) for t in times}
+    for i in range(16):
+        if first + i in taken:
+            return i + 1 + 1
+    return 16
+
+
 class Engine:
-    def __init__(self, plan, capacity):
-        self.plan, self.capacity, self.next, self.now = plan, capacity, 0, 0
+    def __init__(self, plan, width, capacity):
+        self.plan, self.width, self.capacity, self.next, self.now = plan, width, capacity, 0, 0
         self.states = initial(plan)
         self.matter, self.before, self.sends = {}, {}, {}  # all held; of the run ones
 
@@ -139,8 +149,13 @@ class Engine:
         return ("Ran", station, len(ran - set(self.before)))
 
     def lowest(self):
-        """Of the stations of the least time the lowest-numbered: a key begins with the time and the target."""
-        return self.run(min(self.unrun())[1]) if self.unrun() else ("Refused", 14)
+        """Of the stations of the least time the lowest-numbered: a key begins with the time and the target. The words are those of the state that it finds."""
+        if not self.unrun():
+            return ("Refused", 14)
+        least = [min((k[0] for k in self.unrun() if k[1] == s), default=None) for s in range(len(self.plan))]
+        words = words_read(self.width, self.now, [t for t in least if t is not None])
+        said = self.run(min(self.unrun())[1])
+        return ("RanLowest", *said[1:], words) if said[0] == "Ran" else said
 
     def commit(self, time, room):
         if time > H + 1:
@@ -165,11 +180,11 @@ class Engine:
         return ("Recorded", self.before[min(run)] if run else self.states[station])
 
 
-def pick(dice, engine, stations):
+def pick(dice, engine, stations, unit):
     """A call that is likely to be accepted, and to take something back."""
     roll = dice.random()
     if roll < 0.24 or not engine.matter:
-        time = max(0, engine.now + dice.randrange(-2, 90))
+        time = max(0, engine.now + unit * dice.randrange(-2, 90))
         return ("post", dice.randrange(stations + (roll < 0.02)), time, *dice.choice([(1, 0), (1, 0), (2, 0), (2, 1 + 256 * dice.randrange(5)), (3, 9), (3, 1), (dice.randrange(5), dice.randrange(7))]))
     if roll < 0.32:
         return ("retract", dice.randrange(engine.next + 1))
@@ -178,29 +193,30 @@ def pick(dice, engine, stations):
     if roll < 0.84:
         return ("lowest",)
     if roll < 0.94:
-        times = [k[0] for k in engine.unrun()] or [engine.now + 10]
-        return ("commit", max(0, min(times) + dice.choice([0, 0, 0, 1, -3])), dice.choice([240, 240, 24]))
+        times = [k[0] for k in engine.unrun()] or [engine.now + unit * 10]
+        return ("commit", max(0, min(times) + unit * dice.choice([0, 0, 0, 1, -3])), dice.choice([240, 240, 24]))
     return ("record", dice.randrange(stations))
 
 
-def scenario(seed, length):
+def scenario(seed, length, width=1, unit=1):
+    """The seed draws times as so many units of milliseconds: the unit changes nothing but them and the counts of words read."""
     dice = random.Random(seed)
     stations = dice.choice([2, 3, 4])
     plan = [
         dict(
             parent=dice.randrange(s) if s else 0,
-            calm=dice.choice([40, 100]),
-            spring=dice.choice([15, 30]),
+            calm=unit * dice.choice([40, 100]),
+            spring=unit * dice.choice([15, 30]),
             threshold=5,
-            hop=dice.choice([5, 7, 20]),
+            hop=unit * dice.choice([5, 7, 20]),
             noise=dice.choice([0, 10**9, 1500000000]),
             seed=dice.randrange(1, 2147483647),
         )
         for s in range(stations)
     ]
-    engine, made, posts, log = Engine(plan, dice.choice([10, 16, 40])), [], {}, []
+    engine, made, posts, log = Engine(plan, width, dice.choice([10, 16, 40])), [], {}, []
     for _ in range(length):
-        name, *words = call = pick(dice, engine, stations)
+        name, *words = call = pick(dice, engine, stations, unit)
         answer = getattr(engine, name)(*words)
         made.append((call, answer))
         if answer[0] == "Posted":
@@ -261,31 +277,35 @@ use Rattle.line.specs.declared.Matter.the-variants.{Read, Frame, Level}
 use Rattle.line.specs.Event.{decide, lex, before}
 use Rattle.line.specs.Matter.{frameOf, matterOf}
 use Rattle.line.specs.Station.{parentOut, numberOut, update, initial, send, silent, period, runRead, drawnState, lose, hear, repeat, pass, runFrame, runLevel, runMatter, runAt, runEvent}
-use Rattle.rules.specs.Held.{same, delete, place, leastUnrun, mark, isRun, undone, heldPost, noneUnrun, unrunBefore, logged, kept, recordOf}
-use Rattle.rules.specs.Engine.{opened, Call, Post, Retract, RunStation, RunLowest, Commit, Record, Answer, Refused, Posted, Retracted, Ran, Committed, Recorded}
+use Rattle.calendar_ring.specs.WordsRead.{noneIn, wordsFrom, wordsRead}
+use Rattle.rules.specs.Held.{same, delete, place, leastUnrun, mark, timeOf, registered, asTime, registeredFrom, isRun, undone, heldPost, noneUnrun, unrunBefore, logged, kept, recordOf}
+use Rattle.rules.specs.Engine.{chosen, opened, Call, Post, Retract, RunStation, RunLowest, Commit, Record, Answer, Refused, Posted, Retracted, Ran, RanLowest, Committed, Recorded}
 use Rattle.rules.specs.Checks.{checks}
 use Rattle.entry.specs.Entry.{entry, entries}
-use Rattle.rules.specs.Calls.{postOf, with}
+use Rattle.rules.specs.Calls.{postOf, with, lowestWords}
 use Rattle.rules.specs.Executable.{runs, beyond, orThis, latest, removeEach, undoFound, undoWithin, undoFrom, removing, adding, addAll, runLeast}
-use Rattle.rules.proofs.Calls.Compute.{settle, postStep, retractStep, runStep, stationStep, lowestOf, commitStep, answerTo, answersTo}
+use Rattle.rules.proofs.Calls.Compute.{settle, postStep, retractStep, runStep, stationStep, lowestOf, counting, countingStep, commitStep, answerTo, answersTo}
 use Rattle.rules_worked.proofs.Check.{nth, allIn, in-range, at, zeros, pairs, Gives, computed}
 """
 
-UNFOLDING = """    settle postStep retractStep runStep stationStep lowestOf commitStep answerTo answersTo
+UNFOLDING = """    settle postStep retractStep runStep stationStep lowestOf counting countingStep lowestWords commitStep answerTo answersTo
     runs beyond orThis latest removeEach undoFound undoWithin undoFrom removing adding addAll runLeast
     postOf with entry entries bytesOf checks orNext judged opened frameOf matterOf
+    noneIn wordsFrom wordsRead timeOf registered asTime registeredFrom
     same delete place leastUnrun mark isRun undone heldPost noneUnrun unrunBefore logged kept recordOf
     decide lex before update initial send silent period runRead drawnState lose hear repeat pass runFrame runLevel runMatter runAt runEvent nextDraw"""
 
-LISTS = [(253, 70), (2870, 70)]  # the first meets eight of the numbers, the second takes back seventeen events at once; both give a frame up
+# seed, length, leaf width, unit: the first meets eight of the numbers, the second takes back seventeen events at once; both give a frame up. The units are such
+# that nine different counts of words read occur in the first and twelve in the second.
+LISTS = [(253, 70, 1, 50), (2870, 70, 2, 80)]
 
 
 def main():
     for seed in range(2000):
         scenario(seed, 120)
     out = [HEAD]
-    for k, (seed, length) in enumerate(LISTS, 1):
-        plan, capacity, made = scenario(seed, length)
+    for k, (seed, length, width, unit) in enumerate(LISTS, 1):
+        plan, capacity, made = scenario(seed, length, width, unit)
         out.append(f"""
 plan-{k} : List Config
 plan-{k} =
@@ -299,10 +319,10 @@ answers-{k} : List Answer
 answers-{k} =
     {list_of(answer_text(a) for _, a in made)}
 
-list-{k} : Gives plan-{k} {capacity} calls-{k} answers-{k}
+list-{k} : Gives plan-{k} (chosen {width} {capacity}) calls-{k} answers-{k}
 unfolding plan-{k} calls-{k} answers-{k} allIn parentOut numberOut nth pairs zeros
 {UNFOLDING}
-list-{k} = computed plan-{k} {capacity} calls-{k} answers-{k} (in-range plan-{k} tt tt tt) refl
+list-{k} = computed plan-{k} (chosen {width} {capacity}) calls-{k} answers-{k} (in-range plan-{k} tt tt tt) refl
 """)
     sys.stdout.write("".join(out))
 

@@ -12,3 +12,4 @@ pub mod Lowest
 pub mod Answered
 pub mod OneAnswer
 pub mod Alike
+pub mod ButCounts

@@ -15,7 +15,7 @@ use Rattle.rules.specs.Engine.{Engine, Call, Post, Retract, RunStation, 
 
 -- "how many places are free (capacity less held events)"
 abbrev pub free : Engine → ℕ
-free e = e .capacity - length (e .queue .held)
+free e = e .setting .capacity - length (e .queue .held)
 
 abbrev pub missing : Found → Bool
 missing none = true

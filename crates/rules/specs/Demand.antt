@@ -12,7 +12,7 @@ use Rattle.line.specs.declared.State.{State}
 use Rattle.line.specs.Matter.{matterOf}
 use Rattle.line.specs.Station.{Plan}
 use Rattle.rules.specs.Machine.{Machine, start, Runs}
-use Rattle.rules.specs.Engine.{Engine, Call, Post, Retract, RunStation, RunLowest, Commit, Record, Answer, Refused, Posted, Retracted, Ran, Committed, Recorded}
+use Rattle.rules.specs.Engine.{Engine, Call, Post, Retract, RunStation, RunLowest, Commit, Record, Answer, Refused, Posted, Retracted, Ran, RanLowest, Committed, Recorded}
 use Rattle.entry.specs.Entry.{entries}
 use Rattle.rules.specs.Calls.{postOf, Answers}
 
@@ -31,6 +31,7 @@ isRefused (Refused n) = true
 isRefused (Posted n u) = false
 isRefused (Retracted u) = false
 isRefused (Ran s u) = false
+isRefused (RanLowest s u w) = false
 isRefused (Committed n o) = false
 isRefused (Recorded st) = false
 
@@ -104,6 +105,7 @@ logIn (Refused n) = []
 logIn (Posted n u) = []
 logIn (Retracted u) = []
 logIn (Ran s u) = []
+logIn (RanLowest s u w) = []
 logIn (Committed n output) = take (24 * n) output
 logIn (Recorded st) = []
 

@@ -1,6 +1,7 @@
 -- The events that the engine holds, in the event order, and what is read off them (document 01, "Engine calls").
-use Prim.Native.Nat.{ℕ, suc, _≤_}
+use Prim.Native.Nat.{ℕ, zero, suc, _≤_}
 use mathlib.Core.Path.{_≡_}
+use mathlib.Core.Option.{Option, none as noTime, some as timed}
 use mathlib.Core.Bool.{Bool, true, false, cond, not, _&&_, _||_}
 use mathlib.Core.List.{List, [], _∷_, List·Memᴰ}
 use lib.Dec.{ltb, eqb}
@@ -76,6 +77,15 @@ timeOf (some x) = at (x .time)
 
 unfoldable pub registered : List Held → ℕ → Registered
 registered h s = timeOf (leastUnrun s h)
+
+-- the same as an optional time, and those of the n stations from s on
+unfoldable pub asTime : Registered → Option ℕ
+asTime absent = noTime
+asTime (at t) = timed t
+
+unfoldable pub registeredFrom : List Held → ℕ → ℕ → List (Option ℕ)
+registeredFrom h s zero = []
+registeredFrom h s (suc n) = asTime (registered h s) ∷ registeredFrom h (suc s) n
 
 -- s has the least registered time and is the lowest-numbered that has it: "Extract and run lowest follow" (document 02, change 3)
 pub record Lowest (h : List Held) (s : ℕ) : Type 0 where

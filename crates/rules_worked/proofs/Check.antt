@@ -11,7 +11,7 @@ use Rattle.line.specs.declared.Config.{Config}
 use Rattle.line.specs.declared.Event.{Event}
 use Rattle.line.specs.declared.Matter.{Matter}
 use Rattle.line.specs.Station.{Plan, InRange, numberOut}
-use Rattle.rules.specs.Engine.{Engine, opened, Call, Answer}
+use Rattle.rules.specs.Engine.{Setting, Engine, opened, Call, Answer}
 use Rattle.rules.specs.Demand.{Made, Calls}
 use Rattle.rules.proofs.Calls.Compute.{answersTo, leftBy}
 use Rattle.rules.proofs.Calls.Answered.{opened-answers}
@@ -62,11 +62,11 @@ pairs [] answers = []
 pairs (c ∷ cs) [] = []
 pairs (c ∷ cs) (a ∷ answers) = record { asked = c; said = a } ∷ pairs cs answers
 
--- an engine of the plan, asked these calls one after the other, gives these answers
-abbrev pub Gives : List Config → ℕ → List Call → List Answer → Type 0
-Gives cs capacity calls answers = (f : Engine) × Calls (planOf cs) (opened (planOf cs) capacity) (pairs calls answers) f
+-- an engine of the plan, opened with this leaf width and capacity and asked these calls one after the other, gives these answers
+abbrev pub Gives : List Config → Setting → List Call → List Answer → Type 0
+Gives cs setting calls answers = (f : Engine) × Calls (planOf cs) (opened (planOf cs) setting) (pairs calls answers) f
 
-pub computed : (cs : List Config) (capacity : ℕ) (calls : List Call) (answers : List Answer) → InRange (planOf cs)
-    → answersTo (planOf cs) (opened (planOf cs) capacity) calls ≡ pairs calls answers → Gives cs capacity calls answers
-computed cs capacity calls answers r e =
-    (leftBy (planOf cs) (opened (planOf cs) capacity) calls, subst (λ ms. Calls (planOf cs) (opened (planOf cs) capacity) ms (leftBy (planOf cs) (opened (planOf cs) capacity) calls)) e (opened-answers (planOf cs) r capacity calls))
+pub computed : (cs : List Config) (setting : Setting) (calls : List Call) (answers : List Answer) → InRange (planOf cs)
+    → answersTo (planOf cs) (opened (planOf cs) setting) calls ≡ pairs calls answers → Gives cs setting calls answers
+computed cs setting calls answers r e =
+    (leftBy (planOf cs) (opened (planOf cs) setting) calls, subst (λ ms. Calls (planOf cs) (opened (planOf cs) setting) ms (leftBy (planOf cs) (opened (planOf cs) setting) calls)) e (opened-answers (planOf cs) r setting calls))

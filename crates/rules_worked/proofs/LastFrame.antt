@@ -12,13 +12,14 @@ use Rattle.line.specs.declared.Matter.the-variants.{Read, Frame, Level}
 use Rattle.line.specs.Event.{posted, decide, lex, before}
 use Rattle.line.specs.Matter.{frameOf, matterOf}
 use Rattle.line.specs.Station.{parentOut, numberOut, update, initial, send, silent, period, runRead, drawnState, lose, hear, repeat, pass, runFrame, runLevel, runMatter, runAt, runEvent}
-use Rattle.rules.specs.Held.{same, delete, place, leastUnrun, mark, isRun, undone, heldPost, noneUnrun, unrunBefore, logged, kept, recordOf}
-use Rattle.rules.specs.Engine.{opened, Call, Post, Retract, RunStation, RunLowest, Commit, Record, Answer, Posted, Retracted, Ran, Committed, Recorded}
+use Rattle.calendar_ring.specs.WordsRead.{noneIn, wordsFrom, wordsRead}
+use Rattle.rules.specs.Held.{same, delete, place, leastUnrun, mark, timeOf, registered, asTime, registeredFrom, isRun, undone, heldPost, noneUnrun, unrunBefore, logged, kept, recordOf}
+use Rattle.rules.specs.Engine.{Setting, chosen, opened, Call, Post, Retract, RunStation, RunLowest, Commit, Record, Answer, Posted, Retracted, Ran, RanLowest, Committed, Recorded}
 use Rattle.rules.specs.Checks.{checks}
 use Rattle.entry.specs.Entry.{entry, entries}
-use Rattle.rules.specs.Calls.{postOf, with}
+use Rattle.rules.specs.Calls.{postOf, with, lowestWords}
 use Rattle.rules.specs.Executable.{runs, beyond, orThis, latest, removeEach, undoFound, undoWithin, undoFrom, removing, adding, addAll, runLeast}
-use Rattle.rules.proofs.Calls.Compute.{settle, postStep, retractStep, runStep, stationStep, lowestOf, commitStep, answerTo, answersTo}
+use Rattle.rules.proofs.Calls.Compute.{settle, postStep, retractStep, runStep, stationStep, lowestOf, counting, countingStep, commitStep, answerTo, answersTo}
 use Rattle.rules_worked.proofs.Check.{nth, allIn, in-range, at, zeros, pairs, Gives, computed}
 use Rattle.rules_worked.proofs.Bench as bench
 
@@ -33,6 +34,9 @@ quiet = station 0 ∷ station 0 ∷ []
 
 noisy : List Config
 noisy = station 16807 ∷ station 16807 ∷ []
+
+abbrev small : Setting
+small = chosen 64 8
 
 -- a record of heard, lost and sent, where the level is 0
 abbrev is : ℕ → ℕ → ℕ → ℕ → ℕ → Bool → Answer
@@ -55,7 +59,7 @@ at-0 : List Call
 at-0 = frame 0 0 ∷ Record 0 ∷ RunLowest ∷ Record 0 ∷ Commit 1 (zeros 24) ∷ Record 0 ∷ Record 1 ∷ []
 
 at-0-gets : List Answer
-at-0-gets = Posted 0 0 ∷ never ∷ Ran 0 0 ∷ never ∷ Committed 1 (logs 0 0 0) ∷ is 16807 1 0 0 0 true ∷ never ∷ []
+at-0-gets = Posted 0 0 ∷ never ∷ RanLowest 0 0 2 ∷ never ∷ Committed 1 (logs 0 0 0) ∷ is 16807 1 0 0 0 true ∷ never ∷ []
 
 -- ---- frames at 20 and 50; the second is taken back
 
@@ -65,7 +69,7 @@ taken-back =
 
 taken-back-gets : List Answer
 taken-back-gets =
-    Posted 0 0 ∷ Posted 1 0 ∷ Ran 0 0 ∷ Ran 0 0 ∷ Committed 1 (logs 20 0 0) ∷ is 16807 1 0 0 20 true ∷ Retracted 1 ∷ Committed 0 []
+    Posted 0 0 ∷ Posted 1 0 ∷ RanLowest 0 0 2 ∷ RanLowest 0 0 2 ∷ Committed 1 (logs 20 0 0) ∷ is 16807 1 0 0 20 true ∷ Retracted 1 ∷ Committed 0 []
     ∷ is 16807 1 0 0 20 true ∷ []
 
 -- ---- one at 20 comes late, after one at 50 has run: in the event order the last is at 50
@@ -75,7 +79,7 @@ late = frame 0 50 ∷ RunLowest ∷ frame 0 20 ∷ RunLowest ∷ RunLowest ∷ C
 
 late-gets : List Answer
 late-gets =
-    Posted 0 0 ∷ Ran 0 0 ∷ Posted 1 1 ∷ Ran 0 0 ∷ Ran 0 0 ∷ Committed 1 (logs 20 0 1) ∷ is 16807 1 0 0 20 true ∷ Committed 1 (logs 50 0 0)
+    Posted 0 0 ∷ RanLowest 0 0 2 ∷ Posted 1 1 ∷ RanLowest 0 0 2 ∷ RanLowest 0 0 2 ∷ Committed 1 (logs 20 0 1) ∷ is 16807 1 0 0 20 true ∷ Committed 1 (logs 50 0 0)
     ∷ is 282475249 2 0 0 50 true ∷ []
 
 -- ---- one at 7 is lost and heard when it is repeated, at 37
@@ -85,7 +89,7 @@ lost = frame 0 7 ∷ RunLowest ∷ Commit 8 (zeros 24) ∷ Record 0 ∷ RunLowes
 
 lost-gets : List Answer
 lost-gets =
-    Posted 0 0 ∷ Ran 0 0 ∷ Committed 1 (logs 7 0 0) ∷ is 16807 0 1 1 0 false ∷ Ran 0 0 ∷ Committed 1 (entry (at 37 0 0 0 (Frame 0 1)))
+    Posted 0 0 ∷ RanLowest 0 0 2 ∷ Committed 1 (logs 7 0 0) ∷ is 16807 0 1 1 0 false ∷ RanLowest 0 0 2 ∷ Committed 1 (entry (at 37 0 0 0 (Frame 0 1)))
     ∷ is 282475249 1 1 1 37 true ∷ []
 
 -- ---- one that three repeats have not brought is given up
@@ -94,7 +98,7 @@ given-up : List Call
 given-up = Post 0 7 2 768 ∷ RunLowest ∷ Commit 8 (zeros 24) ∷ Record 0 ∷ []
 
 given-up-gets : List Answer
-given-up-gets = Posted 0 0 ∷ Ran 0 0 ∷ Committed 1 (entry (at 7 0 posted 0 (Frame 0 3))) ∷ is 16807 0 1 0 0 false ∷ []
+given-up-gets = Posted 0 0 ∷ RanLowest 0 0 2 ∷ Committed 1 (entry (at 7 0 posted 0 (Frame 0 3))) ∷ is 16807 0 1 0 0 false ∷ []
 
 -- ---- each station on the way has its own, and a level or a reading at one that has heard leaves it
 
@@ -119,21 +123,22 @@ bench-gets =
 
 -- ---- what the rules give
 
-lists : Gives quiet 8 at-0 at-0-gets × Gives quiet 8 taken-back taken-back-gets × Gives quiet 8 late late-gets × Gives noisy 8 lost lost-gets
-    × Gives noisy 8 given-up given-up-gets × Gives quiet 8 on-the-way on-the-way-gets × Gives quiet 64 bench-calls bench-gets
+lists : Gives quiet small at-0 at-0-gets × Gives quiet small taken-back taken-back-gets × Gives quiet small late late-gets × Gives noisy small lost lost-gets
+    × Gives noisy small given-up given-up-gets × Gives quiet small on-the-way on-the-way-gets × Gives quiet (chosen 64 64) bench-calls bench-gets
 unfolding quiet noisy at-0 at-0-gets taken-back taken-back-gets late late-gets lost lost-gets given-up given-up-gets on-the-way on-the-way-gets
     bench-calls bench-gets bench.calls bench.answers allIn parentOut numberOut nth pairs zeros
-    settle postStep retractStep runStep stationStep lowestOf commitStep answerTo answersTo
+    settle postStep retractStep runStep stationStep lowestOf counting countingStep lowestWords commitStep answerTo answersTo
     runs beyond orThis latest removeEach undoFound undoWithin undoFrom removing adding addAll runLeast
     postOf with entry entries bytesOf checks orNext judged opened frameOf matterOf
+    noneIn wordsFrom wordsRead timeOf registered asTime registeredFrom
     same delete place leastUnrun mark isRun undone heldPost noneUnrun unrunBefore logged kept recordOf
     decide lex before update initial send silent period runRead drawnState lose hear repeat pass runFrame runLevel runMatter runAt runEvent nextDraw
 lists = (
-  computed quiet 8 at-0 at-0-gets (in-range quiet tt tt tt) refl,
-  computed quiet 8 taken-back taken-back-gets (in-range quiet tt tt tt) refl,
-  computed quiet 8 late late-gets (in-range quiet tt tt tt) refl,
-  computed noisy 8 lost lost-gets (in-range noisy tt tt tt) refl,
-  computed noisy 8 given-up given-up-gets (in-range noisy tt tt tt) refl,
-  computed quiet 8 on-the-way on-the-way-gets (in-range quiet tt tt tt) refl,
-  computed quiet 64 bench-calls bench-gets (in-range quiet tt tt tt) refl,
+  computed quiet small at-0 at-0-gets (in-range quiet tt tt tt) refl,
+  computed quiet small taken-back taken-back-gets (in-range quiet tt tt tt) refl,
+  computed quiet small late late-gets (in-range quiet tt tt tt) refl,
+  computed noisy small lost lost-gets (in-range noisy tt tt tt) refl,
+  computed noisy small given-up given-up-gets (in-range noisy tt tt tt) refl,
+  computed quiet small on-the-way on-the-way-gets (in-range quiet tt tt tt) refl,
+  computed quiet (chosen 64 64) bench-calls bench-gets (in-range quiet tt tt tt) refl,
 )

@@ -1,5 +1,5 @@
--- The answers to a list of calls after an opening are computed from the plan, the capacity and the calls alone, so two lists of the same calls have the
--- same.
+-- The answers to a list of calls after an opening are computed from the plan, what the opening chose and the calls alone, so two lists of the same calls
+-- have the same.
 use mathlib.Core.Path.{_≡_, refl, sym, ap, _∙_}
 use mathlib.Core.List.{List, [], _∷_, _++_, map}
 use Prim.Native.Nat.{ℕ, _*_}
@@ -11,7 +11,7 @@ use Rattle.line.specs.declared.Event.{Event}
 use Rattle.line.specs.Station.{Plan, InRange}
 use Rattle.entry.proofs.Entries.{entries-first}
 use Rattle.rules.specs.Held.{logged}
-use Rattle.rules.specs.Engine.{Engine, opened, Call, Post, Retract, RunStation, RunLowest, Commit, Record, Answer, Refused, Posted, Retracted, Ran, Committed, Recorded}
+use Rattle.rules.specs.Engine.{Setting, Engine, opened, Call, Post, Retract, RunStation, RunLowest, Commit, Record, Answer, Refused, Posted, Retracted, Ran, RanLowest, Committed, Recorded}
 use Rattle.rules.specs.Checks.{checks}
 use Rattle.rules.specs.Calls.{Answers}
 use Rattle.rules.specs.Demand.{Made, Calls, end, next, logIn, logs}
@@ -71,7 +71,7 @@ module _ (p : Plan) (S : InRange p) {e : Engine} (ps : List Event) (gone log : L
 
 -- ---- the joined logs of the answers
 
-joined : List Answer → List ℕ
+unfoldable pub joined : List Answer → List ℕ
 joined [] = []
 joined (a ∷ rest) = logIn a ++ joined rest
 
@@ -81,10 +81,11 @@ log-trimmed (Refused n) = refl
 log-trimmed (Posted n u) = refl
 log-trimmed (Retracted u) = refl
 log-trimmed (Ran s u) = refl
+log-trimmed (RanLowest s u w) = refl
 log-trimmed (Committed n output) = take-take (24 * n) (24 * n) output (omega arith)
 log-trimmed (Recorded st) = refl
 
-logs-joined : (ms : List Made) → logs ms ≡ joined (map trimmed (answersOf ms))
+pub logs-joined : (ms : List Made) → logs ms ≡ joined (map trimmed (answersOf ms))
 unfolding logs joined
 logs-joined [] = refl
 logs-joined (m ∷ ms) = rw (log-trimmed (m .said), logs-joined ms)
@@ -108,21 +109,23 @@ module _ (p : Plan) (S : InRange p) where
       let k = same-step p e c in
       rw (k .0, k .1, calls-trimmed cs (answerTo p e c .engine))
 
-  pub alike : (capacity : ℕ) {ms ns : List Made} {f g : Engine} → Calls p (opened p capacity) ms f → Calls p (opened p capacity) ns g → Alike ms ns
-  alike capacity {ms} {ns} {f} {g} c d = record {
-    same = λ k. only c ∙ ap (answersTo p (opened p capacity)) k ∙ sym (only d);
-    answers = answers;
-    logs-are = λ k. logs-joined ms ∙ ap joined (answers k) ∙ sym (logs-joined ns);
-  }
-    where
-      only : {ls : List Made} {h : Engine} → Calls p (opened p capacity) ls h → ls ≡ answersTo p (opened p capacity) (callsOf ls)
-      only k = calls-only [] [] [] (opened-inv p capacity) k
+  module _ (setting : Setting) where
+    -- what is shown of the answers
+    abbrev pub shown : List Call → List Answer
+    shown cs = map trimmed (answersOf (answersTo p (opened p setting) cs))
 
-      shown : List Call → List Answer
-      shown cs = map trimmed (answersOf (answersTo p (opened p capacity) cs))
+    pub only : {ms : List Made} {f : Engine} → Calls p (opened p setting) ms f → ms ≡ answersTo p (opened p setting) (callsOf ms)
+    only k = calls-only [] [] [] (opened-inv p setting) k
 
-      shows : {ls : List Made} {h : Engine} → Calls p (opened p capacity) ls h → map trimmed (answersOf ls) ≡ shown (map blanked (callsOf ls))
-      shows {ls} k = ap (λ l. map trimmed (answersOf l)) (only k) ∙ sym (calls-trimmed (callsOf ls) (opened p capacity))
+    pub shows : {ms : List Made} {f : Engine} → Calls p (opened p setting) ms f → map trimmed (answersOf ms) ≡ shown (map blanked (callsOf ms))
+    shows {ms} k = ap (λ l. map trimmed (answersOf l)) (only k) ∙ sym (calls-trimmed (callsOf ms) (opened p setting))
 
-      answers : map blanked (callsOf ms) ≡ map blanked (callsOf ns) → map trimmed (answersOf ms) ≡ map trimmed (answersOf ns)
-      answers k = shows c ∙ ap shown k ∙ sym (shows d)
+    pub alike : {ms ns : List Made} {f g : Engine} → Calls p (opened p setting) ms f → Calls p (opened p setting) ns g → Alike ms ns
+    alike {ms} {ns} c d = record {
+      same = λ k. only c ∙ ap (answersTo p (opened p setting)) k ∙ sym (only d);
+      answers = answers;
+      logs-are = λ k. logs-joined ms ∙ ap joined (answers k) ∙ sym (logs-joined ns);
+    }
+      where
+        answers : map blanked (callsOf ms) ≡ map blanked (callsOf ns) → map trimmed (answersOf ms) ≡ map trimmed (answersOf ns)
+        answers k = shows c ∙ ap shown k ∙ sym (shows d)

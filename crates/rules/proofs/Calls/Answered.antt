@@ -13,13 +13,13 @@ use Rattle.line.specs.declared.Meant.the-variants.{Means, Refused as Unsuited}
 use Rattle.line.specs.Event.{posted}
 use Rattle.line.specs.Matter.{matterOf, unsuited}
 use Rattle.line.specs.Station.{Plan, InRange}
-use Rattle.rules.specs.Held.{Held, unrun, ran, event, Queue, In, Found, none, some, leastUnrun, heldPost, noneUnrun, undone}
+use Rattle.rules.specs.Held.{Held, unrun, ran, event, Queue, In, Found, none, some, leastUnrun, Lowest, heldPost, noneUnrun, undone}
 use Rattle.rules.specs.Undo.{Does, Remove, Add, AddEach}
-use Rattle.rules.specs.Engine.{Engine, opened, Call, Post, Retract, RunStation, RunLowest, Commit, Record}
+use Rattle.rules.specs.Engine.{Setting, Engine, opened, Call, Post, Retract, RunStation, RunLowest, Commit, Record, Answer}
 use Rattle.rules.specs.Checks.{missing, checks}
-use Rattle.rules.specs.Calls.{postOf, running, Answers, refuse, post, retract, run, lowest, commit, recorded}
+use Rattle.rules.specs.Calls.{postOf, running, Answers, refuse, post, retract, run, lowest, lowest-refused, commit, recorded, lowestWords}
 use Rattle.rules.specs.Demand.{Calls, end, next}
-use Rattle.rules.proofs.Calls.Compute.{Step, settle, postStep, retractStep, runStep, stationStep, lowestOf, commitStep, answerTo, answersTo, leftBy}
+use Rattle.rules.proofs.Calls.Compute.{Step, settle, postStep, retractStep, runStep, stationStep, lowestOf, counting, countingStep, commitStep, answerTo, answersTo, leftBy}
 use Rattle.rules.specs.Executable.{runs}
 use Rattle.rules.proofs.Replay.Replay.{sendsOf}
 use Rattle.rules.specs.Replay.{Neat}
@@ -52,6 +52,13 @@ post-held n (y ∷ h) x e = go (eqb (event y .source) posted && eqb (event y .nu
     go : (v : Bool) → cond v (some (event y)) (heldPost n h) ≡ some x → (heldPost n h ≡ some x → IsHeld x h) → IsHeld x (y ∷ h)
     go true f ih = let q : event y ≡ x = cc in subst (λ z. IsHeld z (y ∷ h)) q (is-held y (y ∷ h) (List·Memᴰ·head refl))
     go false f ih = beyond (ih f)
+
+-- what run station answers for the lowest station, with the count
+passed-on : (p : Plan) (e : Engine) {f : Engine} {s : ℕ} {a : Answer} → Lowest (e .queue .held) s → Answers p e (RunStation s) a f
+    → Answers p e RunLowest (counting (lowestWords p e) a) f
+unfolding counting
+passed-on p e l (refuse j) = lowest-refused l (refuse j)
+passed-on p e l (run j k d) = lowest l (run j k d)
 
 module _ (p : Plan) (S : InRange p) (e : Engine) (posts : List Event) (gone log : List ℕ) (i : Inv p e posts gone log) where
   neat : Neat p (e .queue .held)
@@ -119,11 +126,12 @@ module _ (p : Plan) (S : InRange p) (e : Engine) (posts : List Event) (gone log 
 
   -- every call has an answer, and it is the one that is computed
   pub answer-is : (c : Call) → Is c (answerTo p e c)
-  unfolding answerTo commitStep
+  unfolding answerTo countingStep commitStep
   answer-is (Post s t kind value) = settled (Post s t kind value) _ (post-is s t kind value)
   answer-is (Retract n) = settled (Retract n) _ (retract-is n)
   answer-is (RunStation s) = station-is s
-  answer-is RunLowest = settled RunLowest _ (λ j. lowest (lowest-is (e .queue .held) (i .ok .sorted) (some-unrun j)) (station-is (lowestOf (e .queue .held))))
+  answer-is RunLowest =
+      settled RunLowest _ (λ j. passed-on p e (lowest-is (e .queue .held) (i .ok .sorted) (some-unrun j)) (station-is (lowestOf (e .queue .held))))
   answer-is (Commit c output) = settled (Commit c output) _ (λ j. commit j)
   answer-is (Record s) = settled (Record s) _ (λ j. recorded j)
 
@@ -160,5 +168,6 @@ module _ (p : Plan) (S : InRange p) where
       let d = answer-is p S e ps gone log i c in
       next d (answers-are cs (answerTo p e c .engine) _ _ _ (call-next p S ps gone log d i .inv))
 
-  pub opened-answers : (capacity : ℕ) (cs : List Call) → Calls p (opened p capacity) (answersTo p (opened p capacity) cs) (leftBy p (opened p capacity) cs)
-  opened-answers capacity cs = answers-are cs (opened p capacity) [] [] [] (opened-inv p capacity)
+  pub opened-answers : (setting : Setting) (cs : List Call)
+      → Calls p (opened p setting) (answersTo p (opened p setting) cs) (leftBy p (opened p setting) cs)
+  opened-answers setting cs = answers-are cs (opened p setting) [] [] [] (opened-inv p setting)

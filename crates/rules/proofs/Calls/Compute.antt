@@ -7,9 +7,9 @@ use Rattle.line.specs.declared.Meant.the-variants.{Means, Refused as Unsuited}
 use Rattle.line.specs.Matter.{matterOf}
 use Rattle.line.specs.Station.{Plan}
 use Rattle.rules.specs.Held.{Held, unrun, ran, Queue, Found, none, some, leastUnrun, undone, heldPost, logged, kept, recordOf}
-use Rattle.rules.specs.Engine.{Engine, Call, Post, Retract, RunStation, RunLowest, Commit, Record, Answer, Refused, Posted, Retracted, Ran, Recorded}
+use Rattle.rules.specs.Engine.{Engine, Call, Post, Retract, RunStation, RunLowest, Commit, Record, Answer, Refused, Posted, Retracted, Ran, RanLowest, Committed, Recorded}
 use Rattle.rules.specs.Checks.{checks}
-use Rattle.rules.specs.Calls.{postOf, with, committed, afterPost, atCommit}
+use Rattle.rules.specs.Calls.{postOf, with, lowestWords, committed, afterPost, atCommit}
 use Rattle.rules.specs.Demand.{Made}
 use Rattle.rules.specs.Executable.{adding, removing, runLeast}
 
@@ -49,6 +49,19 @@ lowestOf [] = 0
 lowestOf (unrun x ∷ h) = x .target
 lowestOf (ran x b ∷ h) = lowestOf h
 
+-- run lowest: what run station answers for that station, with the count where it is run
+unfoldable pub counting : ℕ → Answer → Answer
+counting w (Refused n) = Refused n
+counting w (Posted n u) = Posted n u
+counting w (Retracted u) = Retracted u
+counting w (Ran s u) = RanLowest s u w
+counting w (RanLowest s u v) = RanLowest s u v
+counting w (Committed n output) = Committed n output
+counting w (Recorded st) = Recorded st
+
+unfoldable pub countingStep : ℕ → Step → Step
+countingStep w d = record { answer = counting w (d .answer); engine = d .engine }
+
 unfoldable pub commitStep : Engine → ℕ → List ℕ → Step
 commitStep e c output = record {
   answer = committed (logged c (e .queue .held)) output;
@@ -59,7 +72,8 @@ unfoldable pub answerTo : Plan → Engine → Call → Step
 answerTo p e (Post s t kind value) = settle (judged (checks p e (Post s t kind value))) e (postStep p e s t (matterOf (p .count) kind value))
 answerTo p e (Retract n) = settle (judged (checks p e (Retract n))) e (retractStep p e (heldPost n (e .queue .held)))
 answerTo p e (RunStation s) = stationStep p e s
-answerTo p e RunLowest = settle (judged (checks p e RunLowest)) e (stationStep p e (lowestOf (e .queue .held)))
+answerTo p e RunLowest =
+    settle (judged (checks p e RunLowest)) e (countingStep (lowestWords p e) (stationStep p e (lowestOf (e .queue .held))))
 answerTo p e (Commit c output) = settle (judged (checks p e (Commit c output))) e (commitStep e c output)
 answerTo p e (Record s) = settle (judged (checks p e (Record s))) e (record { answer = Recorded (recordOf (e .queue .states) s (e .queue .held)); engine = e })
 

@@ -11,7 +11,7 @@ use Rattle.line.specs.declared.State.{State}
 use Rattle.line.specs.Station.{Plan, InRange}
 use Rattle.rules.specs.Machine.{Machine, start, Runs}
 use Rattle.rules.specs.Held.{recordOf}
-use Rattle.rules.specs.Engine.{Engine, opened, Record, Answer, Recorded}
+use Rattle.rules.specs.Engine.{Setting, Engine, opened, Record, Answer, Recorded}
 use Rattle.entry.specs.Entry.{entries}
 use Rattle.rules.specs.Calls.{Answers, refuse, recorded}
 use Rattle.rules.specs.Demand.{Made, Calls, end, next, isRefused, postIn, posts, namedIn, retracted, without, fed, timeIn, lastCommit, logIn, logs, Comes, Demand}
@@ -48,14 +48,14 @@ module _ (p : Plan) (S : InRange p) where
           (rw (sym (append-assoc ps xs (posts p (e .next + length xs) ms)), sym (append-assoc gone ks (retracted ms)), sym (append-assoc log (logIn (m .said)) (logs ms)), sym (n .number)) (r .0), r .1 ∙ ap (λ t. lastCommit t ms) (n .time))
 
   -- an engine that an opening and a list of calls have left
-  pub after-calls : (capacity : ℕ) {ms : List Made} {f : Engine} → Calls p (opened p capacity) ms f
+  pub after-calls : (setting : Setting) {ms : List Made} {f : Engine} → Calls p (opened p setting) ms f
       → Inv p f (posts p 0 ms) (retracted ms) (logs ms) × (f .now ≡ lastCommit 0 ms)
   unfolding opened
-  after-calls capacity c = calls-add [] [] [] c (opened-inv p capacity)
+  after-calls setting c = calls-add [] [] [] c (opened-inv p setting)
 
   -- no two held events have one key: they are in strict order
-  pub held-strict : (capacity : ℕ) {ms : List Made} {f : Engine} → Calls p (opened p capacity) ms f → Strict (f .queue .held)
-  held-strict capacity {ms} {f} c = held-neat p S f (posts p 0 ms) (retracted ms) (logs ms) (after-calls capacity c .0) .strict
+  pub held-strict : (setting : Setting) {ms : List Made} {f : Engine} → Calls p (opened p setting) ms f → Strict (f .queue .held)
+  held-strict setting {ms} {f} c = held-neat p S f (posts p 0 ms) (retracted ms) (logs ms) (after-calls setting c .0) .strict
 
   -- ---- the plain machine of specs/Machine
 
@@ -70,9 +70,9 @@ module _ (p : Plan) (S : InRange p) where
     pub log-is : logs ms ≡ entries (machine .log)
     pub record-is-state : (s : ℕ) → recordOf (f .queue .states) s (f .queue .held) ≡ machine .states s
 
-  pub reached : (capacity : ℕ) {ms : List Made} {f : Engine} → Calls p (opened p capacity) ms f → Reached ms f
+  pub reached : (setting : Setting) {ms : List Made} {f : Engine} → Calls p (opened p setting) ms f → Reached ms f
   unfolding fed start sortedStart
-  reached capacity {ms} {f} c = record {
+  reached setting {ms} {f} c = record {
     machine = k .0;
     comes = k .1;
     log-is = sym (i .log-is) ∙ ap (λ m. entries (m .log)) (sym (k .2));
@@ -80,12 +80,12 @@ module _ (p : Plan) (S : InRange p) where
   }
     where
       i : Inv p f (posts p 0 ms) (retracted ms) (logs ms)
-      i = after-calls capacity c .0
+      i = after-calls setting c .0
 
       k : (n : Machine) × Comes p ms n × (inOrder n ≡ i .machine)
       k =
           from-order p S (start p (fed p ms)) (fed-ready f (posts p 0 ms) (retracted ms) (logs ms) i)
-          (subst (λ t. SortedRuns p t (sortedStart p (fed p ms)) (i .machine)) (after-calls capacity c .1) (i .steps))
+          (subst (λ t. SortedRuns p t (sortedStart p (fed p ms)) (i .machine)) (after-calls setting c .1) (i .steps))
 
   -- ---- a record in the middle of the list
 
@@ -106,27 +106,29 @@ module _ (p : Plan) (S : InRange p) where
 
   -- ---- demand 3
 
-  pub demand : (capacity : ℕ) {ms : List Made} {f : Engine} → Calls p (opened p capacity) ms f → Demand p ms
-  demand capacity {ms} {f} c = record { machine = r .machine; comes = r .comes; log-is = r .log-is; records-are = records }
+  pub demand : (setting : Setting) {ms : List Made} {f : Engine} → Calls p (opened p setting) ms f → Demand p ms
+  demand setting {ms} {f} c = record { machine = r .machine; comes = r .comes; log-is = r .log-is; records-are = records }
     where
       r : Reached ms f
-      r = reached capacity c
+      r = reached setting c
 
       records : (bs : List Made) (s : ℕ) (st : State) (cs : List Made) → ms ≡ bs ++ (record { asked = Record s; said = Recorded st } ∷ cs)
           → (k : Machine) × Comes p bs k × (st ≡ k .states s)
       records bs s st cs e =
-          let d = split bs (record { asked = Record s; said = Recorded st }) cs (subst (λ l. Calls p (opened p capacity) l f) e c) in
-          let q = reached capacity (d .calls) in
+          let d = split bs (record { asked = Record s; said = Recorded st }) cs (subst (λ l. Calls p (opened p setting) l f) e c) in
+          let q = reached setting (d .calls) in
           (q .machine, q .comes, record-answer (d .answer) st refl ∙ q .record-is-state s)
 
   -- the machine has one result, so there is no other log and no other record
-  pub one-machine : (capacity : ℕ) {ms : List Made} {f : Engine} → Calls p (opened p capacity) ms f → (m n : Machine) → Comes p ms m → Comes p ms n → m ≡ n
+  pub one-machine : (setting : Setting) {ms : List Made} {f : Engine} → Calls p (opened p setting) ms f → (m n : Machine) → Comes p ms m
+      → Comes p ms n → m ≡ n
   unfolding fed
-  one-machine capacity {ms} {f} c m n a b = one-result p S (fed-ready f (posts p 0 ms) (retracted ms) (logs ms) (after-calls capacity c .0)) a b
+  one-machine setting {ms} {f} c m n a b = one-result p S (fed-ready f (posts p 0 ms) (retracted ms) (logs ms) (after-calls setting c .0)) a b
 
   -- and it has a result at every time
-  pub some-machine : (capacity : ℕ) {ms : List Made} {f : Engine} → Calls p (opened p capacity) ms f → (t : ℕ) → (m : Machine) × Runs p t (start p (fed p ms)) m
+  pub some-machine : (setting : Setting) {ms : List Made} {f : Engine} → Calls p (opened p setting) ms f → (t : ℕ)
+      → (m : Machine) × Runs p t (start p (fed p ms)) m
   unfolding fed
-  some-machine capacity {ms} {f} c t =
+  some-machine setting {ms} {f} c t =
       halts-plain p S t (start p (without (retracted ms) (posts p 0 ms)))
-      (fed-ready f (posts p 0 ms) (retracted ms) (logs ms) (after-calls capacity c .0))
+      (fed-ready f (posts p 0 ms) (retracted ms) (logs ms) (after-calls setting c .0))

@@ -17,7 +17,7 @@ use Rattle.line.proofs.All.{all-map}
 use Rattle.line.proofs.Sends.{Sent, event-good}
 use Rattle.rules.specs.Machine.{Machine}
 use Rattle.rules.specs.Held.{Held, unrun, ran, event, some, leastUnrun, heldPost}
-use Rattle.rules.specs.Engine.{Engine, opened}
+use Rattle.rules.specs.Engine.{Setting, Engine, opened}
 use Rattle.entry.specs.Entry.{entries}
 use Rattle.rules.specs.Demand.{without}
 use Rattle.rules.specs.Replay.{insertAllSorted, Replay, InOrder, Replayed, Strict, Neat}
@@ -43,9 +43,9 @@ pub record Inv (p : Plan) (e : Engine) (posts : List Event) (gone : List ℕ) (l
   pub numbered : Numbered posts
   pub passed : All (λ n. n < e .next) gone
 
-pub opened-inv : (p : Plan) (capacity : ℕ) → Inv p (opened p capacity) [] [] []
+pub opened-inv : (p : Plan) (setting : Setting) → Inv p (opened p setting) [] [] []
 unfolding opened sortedStart insertAllSorted Idle without entries
-opened-inv p capacity = record {
+opened-inv p setting = record {
   machine = sortedStart p [];
   steps = rest tt;
   log-is = refl;

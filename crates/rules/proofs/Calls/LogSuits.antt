@@ -16,7 +16,7 @@ use Rattle.line.proofs.Members.{all-append}
 use Rattle.line.proofs.Sends.{event-good}
 use Rattle.line.proofs.Suits.{means-suits, sends-suit}
 use Rattle.rules.specs.Machine.{Machine, start}
-use Rattle.rules.specs.Engine.{Engine, opened, Call, Post, Retract, RunStation, RunLowest, Commit, Record}
+use Rattle.rules.specs.Engine.{Setting, Engine, opened, Call, Post, Retract, RunStation, RunLowest, Commit, Record}
 use Rattle.rules.specs.Calls.{postOf}
 use Rattle.rules.specs.Demand.{Made, Calls, isRefused, posting, postIn, posts, retracted, logs, fed, Comes}
 use Rattle.rules.proofs.Machine.Log.{log-all}
@@ -65,12 +65,12 @@ module _ (p : Plan) where
   sends-proper : InRange p → (st : State) (x : Event) → Proper x → All Proper (runEvent p st x .sends)
   sends-proper S st x h = all-both (λ y w e. (w .inside, e)) (runEvent p st x .sends) (event-good p S st x (h .0) .each) (sends-suit p S st x (h .0) (h .1))
 
-  pub log-suits : (S : InRange p) (capacity : ℕ) {ms : List Made} {f : Engine} → Calls p (opened p capacity) ms f → (k : Machine) → Comes p ms k
+  pub log-suits : (S : InRange p) (setting : Setting) {ms : List Made} {f : Engine} → Calls p (opened p setting) ms f → (k : Machine) → Comes p ms k
       → All EventSuits (k .log)
   unfolding fed start
-  log-suits S capacity {ms} {f} c k r =
+  log-suits S setting {ms} {f} c k r =
       all-map (λ x h. h .1) (k .log)
       (log-all p Proper (sends-proper S) r (all-both (λ x i e. (i, e)) (fed p ms) inside (without-all EventSuits (retracted ms) (posts p 0 ms) (posts-suit 0 ms))) tt)
     where
       inside : All (λ x. x .target < p .count) (fed p ms)
-      inside = fed-inside p S f (posts p 0 ms) (retracted ms) (logs ms) (after-calls p S capacity c .0)
+      inside = fed-inside p S f (posts p 0 ms) (retracted ms) (logs ms) (after-calls p S setting c .0)

@@ -9,7 +9,7 @@ use Rattle.line.specs.Order.{Ge}
 use Rattle.line.specs.Event.{before}
 use Rattle.line.specs.Station.{Plan, InRange}
 use Rattle.line.proofs.Order.{irr, asym, earlier, later-time, lower, higher-target, Tri, below, level, above, tri, Which, this, other, which}
-use Rattle.rules.specs.Engine.{Engine, opened}
+use Rattle.rules.specs.Engine.{Setting, Engine, opened}
 use Rattle.rules.specs.Demand.{Made, Calls}
 use Rattle.rules.specs.Held.{Held, unrun, ran, In, some, leastUnrun, absent, at, timeOf, registered, Lowest, noneUnrun}
 use Rattle.rules.specs.Replay.{InOrder}
@@ -84,6 +84,6 @@ lowest-least {h} {s} x y o l e m = go (tri (x .time) (y .time)) (tri (x .target)
     go (level t _) (above u _) = absurd (omega (arith, no-lower t, first-target f))
     go (level t _) (level u _) = unrun-in (λ z. z .target ≡ s → Ge z x) y h m (first-lowest f o) (sym u ∙ first-target f)
 
-pub runs-least : (p : Plan) → InRange p → (capacity : ℕ) {ms : List Made} {e : Engine} {s : ℕ} → Calls p (opened p capacity) ms e
+pub runs-least : (p : Plan) → InRange p → (setting : Setting) {ms : List Made} {e : Engine} {s : ℕ} → Calls p (opened p setting) ms e
     → Lowest (e .queue .held) s → (x y : Event) → leastUnrun s (e .queue .held) ≡ some x → In (unrun y) (e .queue .held) → before y x ≡ false
-runs-least p S capacity c l x y e m = lowest-least x y (after-calls p S capacity c .0 .ok .sorted) l e m .is
+runs-least p S setting c l x y e m = lowest-least x y (after-calls p S setting c .0 .ok .sorted) l e m .is

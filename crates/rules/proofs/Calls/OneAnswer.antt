@@ -6,13 +6,13 @@ use Rattle.refusal.specs.Tests.{Verdict, accepted, orNext, judged}
 use Rattle.line.specs.declared.Event.{Event}
 use Rattle.line.specs.Station.{Plan, InRange}
 use Rattle.rules.specs.Held.{Lowest, undone}
-use Rattle.rules.specs.Engine.{Engine, opened, Call, Post, Retract, RunStation, RunLowest, Commit, Record, Answer, Posted, Retracted, Ran}
+use Rattle.rules.specs.Engine.{Setting, Engine, opened, Call, Post, Retract, RunStation, RunLowest, Commit, Record, Answer, Refused, Posted, Retracted, Ran}
 use Rattle.rules.specs.Checks.{checks}
-use Rattle.rules.specs.Calls.{postOf, with, Answers, refuse, post, retract, run, lowest, commit, recorded, afterPost}
+use Rattle.rules.specs.Calls.{postOf, with, Answers, refuse, post, retract, run, lowest, lowest-refused, commit, recorded, lowestWords, afterPost}
 use Rattle.rules.specs.Demand.{Made, Calls, posts, retracted, logs}
 use Rattle.rules.specs.Executable.{adding, removing, runLeast}
 use Rattle.rules.proofs.Undo.Agree.{does-agree}
-use Rattle.rules.proofs.Calls.Compute.{Step, settle, postStep, retractStep, runStep, stationStep, commitStep, answerTo}
+use Rattle.rules.proofs.Calls.Compute.{Step, settle, postStep, retractStep, runStep, stationStep, counting, countingStep, commitStep, answerTo}
 use Rattle.rules.proofs.Calls.Invariant.{Inv, held-neat}
 use Rattle.rules.proofs.Calls.Step.{run-queue}
 use Rattle.rules.proofs.Calls.Lowest.{lowest-is, one-lowest, lowest-unrun}
@@ -44,9 +44,17 @@ some-lowest p e l = rw (lowest-unrun l)
 module _ (p : Plan) (S : InRange p) where
   -- ---- what the rules answer is what is computed
 
+  -- run lowest passes on what run station answers for the lowest station
+  passes : {e f : Engine} {s : ℕ} (a : Answer) (ps : List Event) (gone log : List ℕ) → Inv p e ps gone log → Lowest (e .queue .held) s
+      → step a f ≡ stationStep p e s → step (counting (lowestWords p e) a) f ≡ answerTo p e RunLowest
+  unfolding answerTo countingStep
+  passes {e} a ps gone log i l r =
+      let s = one-lowest l (lowest-is (e .queue .held) (i .ok .sorted) (lowest-unrun l)) in
+      ap (countingStep (lowestWords p e)) r ∙ ap (λ t. countingStep (lowestWords p e) (stationStep p e t)) s ∙ sym (settled e _ (some-lowest p e l))
+
   pub answer-only : {e f : Engine} {c : Call} {a : Answer} (ps : List Event) (gone log : List ℕ) → Inv p e ps gone log → Answers p e c a f
       → step a f ≡ answerTo p e c
-  unfolding settle answerTo postStep retractStep runStep stationStep commitStep
+  unfolding settle answerTo postStep retractStep runStep stationStep counting commitStep
   answer-only ps gone log i (refuse {e = e} {c = c} j) = let d = settles p e c in sym (d .1 ∙ ap (λ v. settle v e (d .0)) j)
   answer-only ps gone log i (post {e = e} {s = s} {t = t} {kind = kind} {value = value} {m = m} {q = q} j k d) =
       let f = post-fits p S e ps gone log i s t kind value m j in
@@ -58,9 +66,8 @@ module _ (p : Plan) (S : InRange p) where
   answer-only ps gone log i (run {e = e} {s = s} {x = x} {q = q} j k d) =
       let z : q ≡ runLeast p (e .queue) x = run-queue p S e ps gone log i x (first-of p S e ps gone log i s x k) q d in
       ap (λ r. step (Ran s (undone (e .queue .held) (r .held))) (with e r)) z ∙ sym (settled e _ j ∙ ap (runStep p e s) k)
-  answer-only ps gone log i (lowest {e = e} l d) =
-      let s = one-lowest l (lowest-is (e .queue .held) (i .ok .sorted) (lowest-unrun l)) in
-      answer-only ps gone log i d ∙ ap (stationStep p e) s ∙ sym (settled e _ (some-lowest p e l))
+  answer-only ps gone log i (lowest {s = s} {u = u} l d) = passes (Ran s u) ps gone log i l (answer-only ps gone log i d)
+  answer-only ps gone log i (lowest-refused {n = n} l d) = passes (Refused n) ps gone log i l (answer-only ps gone log i d)
   answer-only ps gone log i (commit {e = e} j) = sym (settled e _ j)
   answer-only ps gone log i (recorded {e = e} j) = sym (settled e _ j)
 
@@ -73,9 +80,9 @@ module _ (p : Plan) (S : InRange p) where
       (ap (λ (x : Step). x .answer) z, ap (λ (x : Step). x .engine) z)
 
   -- an engine that an opening and calls have left answers every call, in one way
-  pub exactly-one : (capacity : ℕ) {ms : List Made} {e : Engine} → Calls p (opened p capacity) ms e → (c : Call)
+  pub exactly-one : (setting : Setting) {ms : List Made} {e : Engine} → Calls p (opened p setting) ms e → (c : Call)
       → (a : Answer) × (f : Engine) × Answers p e c a f × ((b : Answer) (g : Engine) → Answers p e c b g → (b ≡ a) × (g ≡ f))
-  exactly-one capacity {ms} {e} k c =
-      let i = after-calls p S capacity k .0 in
+  exactly-one setting {ms} {e} k c =
+      let i = after-calls p S setting k .0 in
       let d = answer-is p S e (posts p 0 ms) (retracted ms) (logs ms) i c in
       (answerTo p e c .answer, answerTo p e c .engine, d, λ b g h. one-answer (posts p 0 ms) (retracted ms) (logs ms) i h d)

@@ -14,9 +14,9 @@ use Rattle.line.specs.Event.{before}
 use Rattle.line.specs.Station.{Plan, runEvent}
 use Rattle.rules.specs.Held.{Held, unrun, ran, event, Queue, same, unmark, delete, place, some, leastUnrun, mark, kept}
 use Rattle.rules.specs.Undo.{Action, Undo, UndoLater, Remove, RemoveEach, Add, AddEach, Does, undo, later-none, later-next, remove-run, remove-unrun, add, remove-none, remove-next, add-none, add-next}
-use Rattle.rules.specs.Engine.{Engine, opened, Call, Post, RunStation, Answer}
+use Rattle.rules.specs.Engine.{Setting, Engine, opened, Call, Post, RunStation, Answer}
 use Rattle.rules.specs.Checks.{free, runTooFew, checks}
-use Rattle.rules.specs.Calls.{with, running, Answers, refuse, post, retract, run, lowest, commit, recorded}
+use Rattle.rules.specs.Calls.{with, running, Answers, refuse, post, retract, run, lowest, lowest-refused, commit, recorded}
 use Rattle.rules.specs.Demand.{Made, Calls, end, next}
 use Rattle.refusal.proofs.CheckingOrder.{not-holding}
 use Rattle.rules.proofs.Calls.Step.{le-of}
@@ -90,7 +90,7 @@ does-length (add-next d c) = omega (arith, does-length d, does-length c)
 
 -- the held events fit
 abbrev pub Room : Engine → Type 0
-Room e = length (e .queue .held) ≤ e .capacity
+Room e = length (e .queue .held) ≤ e .setting .capacity
 
 post-room : (p : Plan) (e : Engine) (s t kind value : ℕ) → judged (checks p e (Post s t kind value)) ≡ accepted → 1 ≤ free e
 unfolding checks judged
@@ -119,6 +119,7 @@ answers-room (retract j m d) r = omega (arith, does-length d)
 answers-room {p} (run {e = e} {s = s} {x = x} j m d) r =
     omega (arith, does-length d, mark-length (x .target) (e .queue .states (x .target)) (e .queue .held), run-room p e s x j m)
 answers-room (lowest l d) r = answers-room d r
+answers-room (lowest-refused l d) r = answers-room d r
 answers-room (commit {e = e} {c = c} j) r = le-trans (kept-length c (e .queue .held)) r
 answers-room (recorded j) r = r
 
@@ -126,6 +127,6 @@ calls-room : {p : Plan} {e f : Engine} {ms : List Made} → Calls p e ms f → R
 calls-room end r = r
 calls-room (next d c) r = calls-room c (answers-room d r)
 
-pub held-fit : {p : Plan} (capacity : ℕ) {ms : List Made} {f : Engine} → Calls p (opened p capacity) ms f → Room f
+pub held-fit : {p : Plan} (setting : Setting) {ms : List Made} {f : Engine} → Calls p (opened p setting) ms f → Room f
 unfolding opened
-held-fit capacity c = calls-room c (omega arith)
+held-fit setting c = calls-room c (omega arith)

@@ -24,7 +24,7 @@ use Rattle.rules.specs.Undo.{Does, Remove, Add, AddEach}
 use Rattle.rules.specs.Engine.{Engine, Call, Post, Commit, Answer}
 use Rattle.rules.specs.Checks.{checks}
 use Rattle.entry.specs.Entry.{entries}
-use Rattle.rules.specs.Calls.{postOf, with, running, committed, Answers, refuse, post, retract, run, lowest, commit, recorded, afterPost, atCommit}
+use Rattle.rules.specs.Calls.{postOf, with, running, committed, Answers, refuse, post, retract, run, lowest, lowest-refused, commit, recorded, afterPost, atCommit}
 use Rattle.rules.specs.Demand.{isRefused, postIn, namedIn, without, timeIn, logIn}
 use Rattle.rules.specs.Executable as F
 use Rattle.rules.specs.Executable.{addAll, runLeast}
@@ -276,6 +276,7 @@ module _ (p : Plan) (S : InRange p) where
   call-next posts gone log (retract {e = e} {n = n} {x = x} {q = q} j k d) i = record { inv = retract-inv e posts gone log i n x q k d; number = omega arith; time = refl }
   call-next posts gone log (run {e = e} {s = s} {x = x} {q = q} j k d) i = record { inv = run-inv e posts gone log i s x q k d; number = omega arith; time = refl }
   call-next posts gone log (lowest l d) i = let n = call-next posts gone log d i in record { inv = n .inv; number = n .number; time = n .time }
+  call-next posts gone log (lowest-refused l d) i = let n = call-next posts gone log d i in record { inv = n .inv; number = n .number; time = n .time }
   call-next posts gone log (commit {e = e} {c = c} {output = output} j) i =
       let h = commit-passed p e c output j in
       record { inv = commit-inv e posts gone log i c output (h .0) (h .1); number = omega arith; time = refl }

@@ -1,16 +1,19 @@
 -- What a station's registration says of its unrun events, and what a change of one of them makes of it.
-use mathlib.Core.Path.{_≡_, refl, sym, ap, subst}
+use mathlib.Core.Path.{_≡_, refl, sym, ap, _∙_, subst}
 use mathlib.Core.Logic.{_≢_}
 use mathlib.Core.Bool.{Bool, true, false, not, _&&_}
+use mathlib.Core.Option.{none as noTime}
 use mathlib.Core.List.{List, [], _∷_, List·Memᴰ·head, List·Memᴰ·tail}
-use Prim.Native.Nat.{ℕ, _≤_}
+use Prim.Native.Nat.{ℕ, zero, suc, _+_, _≤_, _<_}
+use native.Mathlib.Nat.{add-zero, add-suc, suc-add}
 use native.Mathlib.Omega.{arith}
+use lib.ListN.{length, getD}
 use Rattle.line.specs.declared.Event.{Event}
 use Rattle.line.specs.declared.State.{State}
 use Rattle.line.specs.Event.{before}
 use Rattle.line.specs.Order.{Lt, Ge, Differ, fst, snd}
 use Rattle.line.proofs.Order.{clash, asym, later-time}
-use Rattle.rules.specs.Held.{Held, unrun, ran, event, In, same, unmark, Found, none, some, leastUnrun, absent, at, timeOf, registered}
+use Rattle.rules.specs.Held.{Held, unrun, ran, event, In, same, unmark, Found, none, some, leastUnrun, absent, at, timeOf, registered, asTime, registeredFrom}
 use Rattle.line.proofs.Members.{all-in}
 use Rattle.rules.specs.Replay.{InOrder, Blocked, Strict}
 use Rattle.rules.proofs.Replay.Delete.{same-self}
@@ -87,3 +90,16 @@ differ-same {y} {x} (snd l) = go (before y x)
     go : (v : Bool) → (not v && not (before x y)) ≡ false
     go true = refl
     go false = rw (l .is)
+
+-- ---- the registered times of all stations, as one list
+
+pub from-length : (h : List Held) (s n : ℕ) → length (registeredFrom h s n) ≡ n
+unfolding registeredFrom
+from-length h s zero = refl
+from-length h s (suc n) = ap suc (from-length h (suc s) n)
+
+pub from-at : (h : List Held) (s n i : ℕ) → i < n → getD (registeredFrom h s n) i noTime ≡ asTime (registered h (s + i))
+unfolding registeredFrom
+from-at h s zero i l = absurd (omega arith)
+from-at h s (suc n) zero l = rw add-zero
+from-at h s (suc n) (suc i) l = from-at h (suc s) n i (omega arith) ∙ ap (λ t. asTime (registered h t)) (suc-add s i ∙ sym (add-suc s i))
