@@ -70,18 +70,18 @@ module _ (time room : ℕ) (xs : List ℕ) where
 
   module _ {n c : ℕ} (s : n ≡ atMost 256 (loadAt 8 0 xs)) (k : c ≡ atMost 4096 (loadAt 8 8 xs)) where
     -- what the bytes hold, by the numbers that are read
-    pub holds-read : (p : Plan) (e : Engine) (R : Represents p e xs) → Holds p n c (e .now) xs (e .queue) (R .cells)
+    pub holds-read : (p : Plan) (e : Engine) (R : Represents p e xs) → Holds p (e .setting) n c (e .now) xs (e .queue) (R .cells)
     holds-read p e R =
         let f = fits-read R s k in
-        subst (λ (i : ℕ). Holds p n i (e .now) xs (e .queue) (R .cells)) (f .1)
-        (subst (λ (i : ℕ). Holds p i (e .capacity) (e .now) xs (e .queue) (R .cells)) (f .0) (R .holds))
+        subst (λ (i : ℕ). Holds p (e .setting) n i (e .now) xs (e .queue) (R .cells)) (f .1)
+        (subst (λ (i : ℕ). Holds p (e .setting) i (e .setting .capacity) (e .now) xs (e .queue) (R .cells)) (f .0) (R .holds))
 
     pub says-space : {r : Bool} → r ≡ fitsIn n c (length xs) → r ≡ false → Says Space
     says-space {r} f z = refuses Space (λ output l p e R. absurd (unfit s k f z R))
 
     module _ (a : time ≤ horizon + 1) (b : loadAt 8 16 xs ≤ time) where
       unrun-is : {v : Bool} → SaysEarly n c xs time v → (p : Plan) (e : Engine) → Represents p e xs → unrunBefore time (e .queue .held) ≡ v
-      unrun-is E p e R = sym (E p (e .now) (e .queue) (R .cells) (holds-read p e R))
+      unrun-is E p e R = sym (E p (e .setting) (e .now) (e .queue) (R .cells) (holds-read p e R))
 
       pub says-unrun : SaysEarly n c xs time true → Says Unrun
       says-unrun E = refuses Unrun (λ output l p e R. judged-unrun p e time output a (rw (R .now) at b) (unrun-is E p e R))
@@ -92,7 +92,7 @@ module _ (time room : ℕ) (xs : List ℕ) where
             refuses Output
             (λ output l p e R.
             let d = unrun-is E p e R in
-            let z = C p (e .now) (e .queue) (R .cells) (holds-read p e R) d in
+            let z = C p (e .setting) (e .now) (e .queue) (R .cells) (holds-read p e R) d in
             judged-short p e time output a (rw (R .now) at b) d (omega (arith, l, h, z)))
 
         pub says-accepted : 24 * count ≤ room → JudgesCommit time room xs (J.Accepts n c count)
@@ -101,7 +101,7 @@ module _ (time room : ℕ) (xs : List ℕ) where
               record {
                 says = λ p e R.
                     let d = unrun-is E p e R in
-                    let z = C p (e .now) (e .queue) (R .cells) (holds-read p e R) d in
+                    let z = C p (e .setting) (e .now) (e .queue) (R .cells) (holds-read p e R) d in
                     judged-passed p e time output a (rw (R .now) at b) d (omega (arith, l, h, z));
               };
           passes = λ n′ c′ count′ q.

@@ -43,17 +43,17 @@ module _ (time : ℕ) (xs output : List ℕ) {n c : ℕ} (s : n ≡ atMost 256 (
     (o : 24 * count ≤ length output) (F : AfterHeader xs ys) (W : Writes n c xs count output ys left) (P : zs ≡ storeAt 8 16 time ys) (G : AfterHeader zs ws)
     (U : Raises n c time zs ws) where
   module _ (p : Plan) (e : Engine) (R : Represents p e xs) where
-    H : Holds p n c (e .now) xs (e .queue) (R .cells)
+    H : Holds p (e .setting) n c (e .now) xs (e .queue) (R .cells)
     H = holds-read time (length output) xs s k p e R
 
     none : unrunBefore time (e .queue .held) ≡ false
-    none = sym (E p (e .now) (e .queue) (R .cells) H)
+    none = sym (E p (e .setting) (e .now) (e .queue) (R .cells) H)
 
     parts : Parted time (R .cells)
     parts = parted time (R .cells) (H .stores .stands .sorted) (rw (H .stores .held) none)
 
-    whole : Holds p n c (e .now) xs (e .queue) (parts .front ++ parts .back)
-    whole = subst (Holds p n c (e .now) xs (e .queue)) (parts .is) H
+    whole : Holds p (e .setting) n c (e .now) xs (e .queue) (parts .front ++ parts .back)
+    whole = subst (Holds p (e .setting) n c (e .now) xs (e .queue)) (parts .is) H
 
     log : logged time (e .queue .held) ≡ eventsOf (parts .front)
     log = ap (logged time) (sym (whole .stores .held)) ∙ logged-front time (parts .front) (parts .back) (parts .early) (parts .late)
@@ -62,7 +62,7 @@ module _ (time : ℕ) (xs output : List ℕ) {n c : ℕ} (s : n ≡ atMost 256 (
     rest = ap (kept time) (sym (whole .stores .held)) ∙ kept-back time (parts .front) (parts .back) (parts .early) (parts .late)
 
     counted : count ≡ length (logged time (e .queue .held))
-    counted = C p (e .now) (e .queue) (R .cells) H none
+    counted = C p (e .setting) (e .now) (e .queue) (R .cells) H none
 
     now-before : e .now ≤ time
     now-before = rw (R .now) at b
@@ -74,11 +74,11 @@ module _ (time : ℕ) (xs output : List ℕ) {n c : ℕ} (s : n ≡ atMost 256 (
 
     -- what is left of the queue
     abbrev Left : ℕ → ℕ → ℕ → List ℕ → Type 0
-    Left m d now bytes = Holds p m d now bytes (record { states = e .queue .states; held = heldOf (parts .back) }) (parts .back)
+    Left m d now bytes = Holds p (e .setting) m d now bytes (record { states = e .queue .states; held = heldOf (parts .back) }) (parts .back)
 
     written : Left n c (e .now) ys × (left ≡ entries (eventsOf (parts .front)) ++ drop (24 * count) output)
     written =
-        W p (e .now) (e .queue) (parts .front) (parts .back) (R .range) whole (parts .run) (sym (counted ∙ ap length log ∙ length-events (parts .front))) o
+        W p (e .setting) (e .now) (e .queue) (parts .front) (parts .back) (R .range) whole (parts .run) (sym (counted ∙ ap length log ∙ length-events (parts .front))) o
 
     said : committed (logged time (e .queue .held)) output ≡ Committed count left
     said =
@@ -98,7 +98,7 @@ module _ (time : ℕ) (xs output : List ℕ) {n c : ℕ} (s : n ≡ atMost 256 (
     raised : Left n c time ws
     raised =
         let B : Left n c (e .now) zs = subst (Left n c (e .now)) (sym P) (header-holds (header-frame 2 time ys (omega arith)) (written .0)) in
-        U p (e .now) _ (parts .back) B now-before (omega arith) (late-in time (parts .back) (parts .late))
+        U p (e .setting) (e .now) _ (parts .back) B now-before (omega arith) (late-in time (parts .back) (parts .late))
 
     -- each other word of the header is as it was
     word : (i : ℕ) → i < 8 → 2 ≢ i → loadAt 8 (8 * i) ws ≡ loadAt 8 (8 * i) xs
@@ -108,7 +108,7 @@ module _ (time : ℕ) (xs output : List ℕ) {n c : ℕ} (s : n ≡ atMost 256 (
     represents =
         let f = fits-read R s k in
         let A : Left (p .count) c time ws = subst (λ (i : ℕ). Left i c time ws) (sym (f .0)) raised in
-        let B : Left (p .count) (e .capacity) time ws = subst (λ (i : ℕ). Left (p .count) i time ws) (sym (f .1)) A in
+        let B : Left (p .count) (e .setting .capacity) time ws = subst (λ (i : ℕ). Left (p .count) i time ws) (sym (f .1)) A in
         record {
           range = R .range;
           reached = reached-next (R .reached) answers refl;

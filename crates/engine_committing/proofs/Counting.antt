@@ -10,6 +10,7 @@ use Rattle.words.specs.Le.{loadAt}
 use Rattle.line.specs.declared.Event.{Event}
 use Rattle.line.specs.Station.{Plan}
 use Rattle.rules.specs.Held.{event, Queue, logged}
+use Rattle.rules.specs.Engine.{Setting}
 use Rattle.rings.specs.Table.{nextOf}
 use Rattle.rings.specs.Ring.{headOf}
 use Rattle.rings.proofs.Places.{first-of, next-of}
@@ -67,12 +68,13 @@ pub record Counted (front back : List Cell) (count x : ℕ) : Type 0 where
 
 abbrev pub Counting : ℕ → ℕ → List ℕ → ℕ → ℕ → ℕ → Type 0
 Counting n c xs time count x =
-    (p : Plan) (now : ℕ) (q : Queue) (front back : List Cell) → Holds p n c now xs q (front ++ back) → AllRun front → AllEarly time front
+    (p : Plan) (setting : Setting) (now : ℕ) (q : Queue) (front back : List Cell) → Holds p setting n c now xs q (front ++ back) → AllRun front
+    → AllEarly time front
     → AllLate time back → Counted front back count x
 
 module _ (n c : ℕ) (xs : List ℕ) (time : ℕ) where
   pub counting-start : {x : ℕ} → (n ≤ 256 → c ≤ 4096 → x ≡ nextOf xs (logAt n c) 0) → Counting n c xs time 0 x
-  counting-start f p now q front back H r e l =
+  counting-start f p setting now q front back H r e l =
       let S = H .stores .stands in
       record { past = []; left = front; is = refl; size = refl; node = f (S .stations) (S .capacity) ∙ first-of (S .log .ring 0 one) }
 
@@ -102,8 +104,8 @@ module _ (n c : ℕ) (xs : List ℕ) (time : ℕ) where
 
     pub counting-on : {z : ℕ} → x ≢ 0 → timeAt n xs x < time → (n ≤ 256 → c ≤ 4096 → z ≡ nextOf xs (logAt n c) x)
         → Counting n c xs time (count + 1) z
-    counting-on {z} d w f p now q front back H r e l =
-        let k = C p now q front back H r e l in
+    counting-on {z} d w f p setting now q front back H r e l =
+        let k = C p setting now q front back H r e l in
         go (k .past) (k .left) (k .is) (k .size) (k .node)
       where
         go : (past left : List Cell) → front ≡ past ++ left → count ≡ length past → x ≡ headOf (nodesBy hasRun (left ++ back)) 0
@@ -126,10 +128,11 @@ module _ (n c : ℕ) (xs : List ℕ) (time : ℕ) where
     -- ---- it stops: no front cell is left
 
     module _ (stops : IsSlot n c (length xs) x → timeAt n xs x < time → count < c → ⊥) where
-      all-passed : (p : Plan) (now : ℕ) (q : Queue) (front back : List Cell) → Holds p n c now xs q (front ++ back) → AllRun front → AllEarly time front
+      all-passed : (p : Plan) (setting : Setting) (now : ℕ) (q : Queue) (front back : List Cell) → Holds p setting n c now xs q (front ++ back)
+          → AllRun front → AllEarly time front
           → AllLate time back → count ≡ length front
-      all-passed p now q front back H r e l =
-          let k = C p now q front back H r e l in
+      all-passed p setting now q front back H r e l =
+          let k = C p setting now q front back H r e l in
           go (k .past) (k .left) (k .is) (k .size) (k .node)
         where
           go : (past left : List Cell) → front ≡ past ++ left → count ≡ length past → x ≡ headOf (nodesBy hasRun (left ++ back)) 0
@@ -145,9 +148,9 @@ module _ (n c : ℕ) (xs : List ℕ) (time : ℕ) where
               (omega (arith, ap length i, length-append past (y ∷ left), length-append front back, H .stores .places)))
 
       pub counting-ends : Counts n c xs time count
-      counting-ends p now q cells H u =
+      counting-ends p setting now q cells H u =
           let P = parted time cells (H .stores .stands .sorted) (rw (H .stores .held) u) in
-          let K : Holds p n c now xs q (P .front ++ P .back) = subst (Holds p n c now xs q) (P .is) H in
+          let K : Holds p setting n c now xs q (P .front ++ P .back) = subst (Holds p setting n c now xs q) (P .is) H in
           let g : logged time (q .held) ≡ eventsOf (P .front) =
           ap (logged time) (sym (K .stores .held)) ∙ logged-front time (P .front) (P .back) (P .early) (P .late) in
-          all-passed p now q (P .front) (P .back) K (P .run) (P .early) (P .late) ∙ sym (ap length g ∙ length-events (P .front))
+          all-passed p setting now q (P .front) (P .back) K (P .run) (P .early) (P .late) ∙ sym (ap length g ∙ length-events (P .front))

@@ -74,7 +74,7 @@ says {n} {c} {xs} {free} st s cells l k S = go cells (first n (runRing n s) cell
         record { current = λ v. k ∙ sym (record-none st n s ys z); saved = λ d. absurd (d u) }
     go ys (some A y B z q) T = at A (y .node) (y .held) B z q T
 
-module _ {p : Plan} {e : Engine} {xs : List ℕ} (R : Represents p e xs) {n c : ℕ} (a : p .count ≡ n) (b : e .capacity ≡ c) (s : ℕ) where
+module _ {p : Plan} {e : Engine} {xs : List ℕ} (R : Represents p e xs) {n c : ℕ} (a : p .count ≡ n) (b : e .setting .capacity ≡ c) (s : ℕ) where
   -- ---- the call
 
   out : n ≤ s → judged (checks p e (Record s)) ≡ refused 9

@@ -12,6 +12,7 @@ use Rattle.line.specs.declared.Event.{Event}
 use Rattle.line.specs.Station.{Plan}
 use Rattle.line.proofs.Order.{asym}
 use Rattle.rules.specs.Held.{Held, event, Queue, unrun, ran, Lowest, noneUnrun, unrunBefore}
+use Rattle.rules.specs.Engine.{Setting}
 use Rattle.rules.specs.Replay.{Above, InOrder}
 use Rattle.rules.proofs.Calls.Commit.{Early, early, late, isEarly}
 use Rattle.rules.proofs.Calls.Tests.{none-early, some-early}
@@ -47,18 +48,19 @@ cells-sorted : (cells : List Cell) → Sorted cells → InOrder (heldOf cells)
 cells-sorted [] o = tt
 cells-sorted (y ∷ ys) o = (all-above (event (y .held)) ys (o .0), cells-sorted ys (o .1))
 
-held-sorted : {p : Plan} {n c now : ℕ} {xs : List ℕ} {q : Queue} {cells : List Cell} → Holds p n c now xs q cells → InOrder (q .held)
+held-sorted : {p : Plan} {setting : Setting} {n c now : ℕ} {xs : List ℕ} {q : Queue} {cells : List Cell} → Holds p setting n c now xs q cells
+    → InOrder (q .held)
 held-sorted {cells = cells} H = subst InOrder (H .stores .held) (cells-sorted cells (H .stores .stands .sorted))
 
 -- ---- what the calendar says
 
 module _ {n c : ℕ} {xs : List ℕ} {r : Least} (time : ℕ) (F : Finds n c xs r) where
   pub none-earlier : (e : Refusal) → r ≡ NoLeast e → S.Early n c xs time false
-  none-earlier e k p now q cells H = sym (none-before time (q .held) (F .none p now q cells H e k))
+  none-earlier e k p setting now q cells H = sym (none-before time (q .held) (F .none p setting now q cells H e k))
 
-  pub some-earlier : (s t : ℕ) → r ≡ At s t → S.Early n c xs time (ltb t time)
-  some-earlier s t k p now q cells H =
-      let f = F .some p now q cells H s t k in
+  pub some-earlier : (s t w : ℕ) → r ≡ At s t w → S.Early n c xs time (ltb t time)
+  some-earlier s t w k p setting now q cells H =
+      let f = F .some p setting now q cells H s t w k in
       let l = f .2 in
       let e : l .time ≡ t = f .3 in
       rw e at (lowest-before time (q .held) s (held-sorted H) l)

@@ -9,6 +9,7 @@ use lib.Seq.{drop-append-add, drop-drop}
 use Rattle.line.specs.declared.Event.{Event}
 use Rattle.line.specs.Station.{Plan, InRange}
 use Rattle.rules.specs.Held.{Held, unrun, ran, event, Queue}
+use Rattle.rules.specs.Engine.{Setting}
 use Rattle.entry.specs.Entry.{entry, entries, eventAt, putEvent}
 use Rattle.entry.proofs.Entries.{entries-length, entries-append, entries-first}
 use Rattle.rings.specs.Table.{nextOf}
@@ -61,32 +62,34 @@ write-next log x output h =
 
 -- ---- the queue
 
-queue-of : {p : Plan} {n c now : ℕ} {xs : List ℕ} {q : Queue} {cells : List Cell} → Holds p n c now xs q cells
-    → Holds p n c now xs (record { states = q .states; held = heldOf cells }) cells
-queue-of {p} {n} {c} {now} {xs} {q} {cells} H =
-    subst (λ (h : List Held). Holds p n c now xs (record { states = q .states; held = h }) cells) (sym (H .stores .held)) H
+queue-of : {p : Plan} {setting : Setting} {n c now : ℕ} {xs : List ℕ} {q : Queue} {cells : List Cell} → Holds p setting n c now xs q cells
+    → Holds p setting n c now xs (record { states = q .states; held = heldOf cells }) cells
+queue-of {p} {setting} {n} {c} {now} {xs} {q} {cells} H =
+    subst (λ (h : List Held). Holds p setting n c now xs (record { states = q .states; held = h }) cells) (sym (H .stores .held)) H
 
 -- ---- the loop
 
 -- so many events are written and have left
-pub record Written (p : Plan) (n c now : ℕ) (q : Queue) (front back : List Cell) (output : List ℕ) (k : ℕ) (ys left : List ℕ) : Type 0 where
+pub record Written (p : Plan) (setting : Setting) (n c now : ℕ) (q : Queue) (front back : List Cell) (output : List ℕ) (k : ℕ)
+    (ys left : List ℕ) : Type 0 where
   pub past : List Cell
   pub rest : List Cell
   pub is : front ≡ past ++ rest
   pub size : length past ≡ k
-  pub holds : Holds p n c now ys (record { states = q .states; held = heldOf (rest ++ back) }) (rest ++ back)
+  pub holds : Holds p setting n c now ys (record { states = q .states; held = heldOf (rest ++ back) }) (rest ++ back)
   pub output-is : left ≡ written (eventsOf past) output
 
 abbrev pub Writing : ℕ → ℕ → List ℕ → ℕ → List ℕ → ℕ → List ℕ → List ℕ → Type 0
 Writing n c xs count output k ys left =
-    (p : Plan) (now : ℕ) (q : Queue) (front back : List Cell) → InRange p → Holds p n c now xs q (front ++ back) → AllRun front → length front ≡ count
+    (p : Plan) (setting : Setting) (now : ℕ) (q : Queue) (front back : List Cell) → InRange p → Holds p setting n c now xs q (front ++ back)
+    → AllRun front → length front ≡ count
     → 24 * count ≤ length output
-    → Written p n c now q front back output k ys left
+    → Written p setting n c now q front back output k ys left
 
 module _ (n c : ℕ) (xs : List ℕ) (count : ℕ) (output : List ℕ) where
   pub writing-start : Writing n c xs count output 0 xs output
   unfolding entries
-  writing-start p now q front back I H r l w = record { past = []; rest = front; is = refl; size = refl; holds = queue-of H; output-is = refl }
+  writing-start p setting now q front back I H r l w = record { past = []; rest = front; is = refl; size = refl; holds = queue-of H; output-is = refl }
 
   -- the log's first is the first cell, a run one
   first-is : (z : ℕ) (h : Held) (cells : List Cell) (ys : List ℕ) (x : ℕ) {free : List ℕ} → hasRun h ≡ true → Stands n c ys (cell z h ∷ cells) free
@@ -97,32 +100,34 @@ module _ (n c : ℕ) (xs : List ℕ) (count : ℕ) (output : List ℕ) where
   -- ---- one more
 
   -- the first cell's event is read, and the others are left
-  step : (p : Plan) (now : ℕ) (q : Queue) (z : ℕ) (h : Held) (cells : List Cell) (ys zs : List ℕ) (x : ℕ) (e : Event) → hasRun h ≡ true → InRange p
-      → Holds p n c now ys (record { states = q .states; held = h ∷ heldOf cells }) (cell z h ∷ cells)
+  step : (p : Plan) (setting : Setting) (now : ℕ) (q : Queue) (z : ℕ) (h : Held) (cells : List Cell) (ys zs : List ℕ) (x : ℕ) (e : Event)
+      → hasRun h ≡ true → InRange p
+      → Holds p setting n c now ys (record { states = q .states; held = h ∷ heldOf cells }) (cell z h ∷ cells)
       → (n ≤ 256 → c ≤ 4096 → x ≡ nextOf ys (logAt n c) 0) → e ≡ eventAt (slotRow n (slotOf n x)) ys → ReleasesEvent n c ys x zs
-      → (e ≡ event h) × Holds p n c now zs (record { states = q .states; held = heldOf cells }) cells
-  step p now q z (unrun v) cells ys zs x e t I H f g R = absurd (true≢false (sym t))
-  step p now q z (ran v b) cells ys zs x e t I H f g R =
+      → (e ≡ event h) × Holds p setting n c now zs (record { states = q .states; held = heldOf cells }) cells
+  step p setting now q z (unrun v) cells ys zs x e t I H f g R = absurd (true≢false (sym t))
+  step p setting now q z (ran v b) cells ys zs x e t I H f g R =
       let S = H .stores .stands in
       let k : x ≡ z = first-is z (ran v b) cells ys x t S f in (
         g ∙ ap (λ (i : ℕ). eventAt (slotRow n (slotOf n i)) ys) k ∙ S .stored .0 .0,
-        R p now (record { states = q .states; held = ran v b ∷ heldOf cells }) cells v b I (rw k H),
+        R p setting now (record { states = q .states; held = ran v b ∷ heldOf cells }) cells v b I (rw k H),
       )
 
   module _ {k : ℕ} {ys left : List ℕ} (W : Writing n c xs count output k ys left) where
     pub writing-on : {x : ℕ} {e : Event} {zs left′ : List ℕ} → k < count → (n ≤ 256 → c ≤ 4096 → x ≡ nextOf ys (logAt n c) 0)
         → e ≡ eventAt (slotRow n (slotOf n x)) ys → left′ ≡ putEvent (24 * k) e left → ReleasesEvent n c ys x zs
         → Writing n c xs count output (k + 1) zs left′
-    writing-on {x} {e} {zs} {left′} h f g o R p now q front back I H r l w =
-        let d = W p now q front back I H r l w in
+    writing-on {x} {e} {zs} {left′} h f g o R p setting now q front back I H r l w =
+        let d = W p setting now q front back I H r l w in
         go (d .past) (d .rest) (d .is) (d .size) (d .holds) (d .output-is)
       where
         go : (past rest : List Cell) → front ≡ past ++ rest → length past ≡ k
-            → Holds p n c now ys (record { states = q .states; held = heldOf (rest ++ back) }) (rest ++ back) → left ≡ written (eventsOf past) output
-            → Written p n c now q front back output (k + 1) zs left′
+            → Holds p setting n c now ys (record { states = q .states; held = heldOf (rest ++ back) }) (rest ++ back)
+            → left ≡ written (eventsOf past) output
+            → Written p setting n c now q front back output (k + 1) zs left′
         go past [] i s K v = absurd (omega (arith, ap length (i ∙ append-nil past)))
         go past (y ∷ rest) i s K v =
-            let d = step p now q (y .node) (y .held) (rest ++ back) ys zs x e (run-at past y rest (rw i at r)) I K f g R in
+            let d = step p setting now q (y .node) (y .held) (rest ++ back) ys zs x e (run-at past y rest (rw i at r)) I K f g R in
             let m : length (eventsOf past) ≡ k = length-events past ∙ s in
             let a : left′ ≡ putEvent (24 * length (eventsOf past)) e (written (eventsOf past) output) =
             o ∙ ap (putEvent (24 * k) e) v ∙ ap (λ (i : ℕ). putEvent (24 * i) e (written (eventsOf past) output)) (sym m) in
@@ -141,8 +146,8 @@ module _ (n c : ℕ) (xs : List ℕ) (count : ℕ) (output : List ℕ) where
 
     pub writing-stops : {x : ℕ} → k < count → (n ≤ 256 → c ≤ 4096 → x ≡ nextOf ys (logAt n c) 0) → (IsSlot n c (length ys) x → ⊥)
         → Writes n c xs count output ys left
-    writing-stops {x} h f none p now q front back I H r l w =
-        let d = W p now q front back I H r l w in
+    writing-stops {x} h f none p setting now q front back I H r l w =
+        let d = W p setting now q front back I H r l w in
         absurd (go (d .past) (d .rest) (d .is) (d .size) (d .holds .stores .stands))
       where
         go : (past rest : List Cell) {free : List ℕ} → front ≡ past ++ rest → length past ≡ k → Stands n c ys (rest ++ back) free → ⊥
@@ -154,13 +159,14 @@ module _ (n c : ℕ) (xs : List ℕ) (count : ℕ) (output : List ℕ) where
     -- ---- all
 
     pub writing-ends : k ≡ count → Writes n c xs count output ys left
-    writing-ends h p now q front back I H r l w =
-        let d = W p now q front back I H r l w in
+    writing-ends h p setting now q front back I H r l w =
+        let d = W p setting now q front back I H r l w in
         go (d .past) (d .rest) (d .is) (d .size) (d .holds) (d .output-is)
       where
         go : (past rest : List Cell) → front ≡ past ++ rest → length past ≡ k
-            → Holds p n c now ys (record { states = q .states; held = heldOf (rest ++ back) }) (rest ++ back) → left ≡ written (eventsOf past) output
-            → Holds p n c now ys (record { states = q .states; held = heldOf back }) back × (left ≡ entries (eventsOf front) ++ drop (24 * count) output)
+            → Holds p setting n c now ys (record { states = q .states; held = heldOf (rest ++ back) }) (rest ++ back)
+            → left ≡ written (eventsOf past) output
+            → Holds p setting n c now ys (record { states = q .states; held = heldOf back }) back × (left ≡ entries (eventsOf front) ++ drop (24 * count) output)
         go past (y ∷ rest) i s K v = absurd (omega (arith, ap length i, length-append past (y ∷ rest)))
         go past [] i s K v =
             let m : length (eventsOf past) ≡ count = length-events past ∙ s ∙ h in

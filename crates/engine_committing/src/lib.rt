@@ -24,6 +24,7 @@ fn unrun_before(b: &[u8], n: u16, c: u16, time: u64) -> bool
     let Least::At {
         station: _,
         time: t,
+        words: _,
     } = engine_events::lowest(b, n, c)
     else {
         return false;

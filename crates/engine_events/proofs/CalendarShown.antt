@@ -5,16 +5,18 @@ use mathlib.Core.Bool.{Bool, true, false}
 use mathlib.Core.Option.{Option, none, some}
 use mathlib.Core.List.{List, [], List·Memᴰ·not-nil}
 use Prim.Native.Nat.{ℕ, _≤_, _<_}
+use native.Mathlib.Nat.{zero-add}
 use native.Mathlib.Omega.{arith}
 use lib.ListN.{getD, replicate, length-replicate, getD-replicate, List·getD-eq-default}
-use Rattle.rules.specs.Held.{Held, Registered, absent, at, registered, Lowest, noneUnrun}
+use lib.Seq.{ext-getD}
+use Rattle.rules.specs.Held.{Held, Registered, absent, at, registered, asTime, registeredFrom, Lowest, noneUnrun}
 use Rattle.rules.proofs.Replay.LeastUnrun.{NoUnrun, in-unrun}
-use Rattle.rules.proofs.Replay.Registered.{registered-absent}
+use Rattle.rules.proofs.Replay.Registered.{registered-absent, from-length, from-at}
 use Rattle.rules.proofs.Calls.Tests.{none-registered, some-registered}
 use Rattle.words.proofs.Cases.{lt-or}
 use Rattle.calendar.specs.Rules.{LeastAt, noneRegistered}
 use Rattle.calendar.proofs.Tests.{none-true, none-false}
-use Rattle.engine_events.specs.Shows.{asTime, Inside, Shows}
+use Rattle.engine_events.specs.Shows.{Inside, Shows}
 
 -- ---- one time
 
@@ -50,6 +52,13 @@ has-registered {h = h} s t a e = time-at (registered h s) t (sym (shows-every a 
 
 pub registered-has : {n : ℕ} {ts : List (Option ℕ)} {h : List Held} (s t : ℕ) → Shows n ts h → registered h s ≡ at t → getD ts s none ≡ some t
 registered-has {h = h} s t a e = shows-every a s ∙ at-time (registered h s) t e
+
+-- its times are the registered ones
+pub shows-times : {n : ℕ} {ts : List (Option ℕ)} {h : List Held} → Shows n ts h → ts ≡ registeredFrom h 0 n
+shows-times {n} {ts} {h} a =
+    ext-getD none ts (registeredFrom h 0 n) (a .length-is ∙ sym (from-length h 0 n)) (λ s l.
+    let k : s < n = omega (arith, a .length-is) in
+    a .each s k ∙ ap (λ t. asTime (registered h t)) (sym (zero-add s)) ∙ sym (from-at h 0 n s k))
 
 -- ---- what the calendar says
 

@@ -13,17 +13,19 @@ use Rattle.refusal.specs.declared.Refusal.the-variants.{Idle}
 use Rattle.refusal.specs.Tests.{accepted, refused, orNext, judged, says, calendarBytes}
 use Rattle.refusal.specs.Numbers.{numberOf}
 use Rattle.line.specs.Station.{Plan}
-use Rattle.rules.specs.Held.{Held, Queue}
+use Rattle.rules.specs.Held.{Held, Queue, registeredFrom}
+use Rattle.rules.specs.Engine.{Setting}
+use Rattle.calendar_ring.specs.WordsRead.{wordsRead}
 use Rattle.calendar.specs.declared.Least.{Least}
 use Rattle.calendar.specs.declared.Least.the-variants.{Refused as NoLeast}
-use Rattle.calendar.specs.Rules.{noneRegistered, LeastAt, lowestChecks}
+use Rattle.calendar.specs.Rules.{noneRegistered, LeastAt, wordsOf, lowestChecks}
 use Rattle.calendar.specs.Bytes.{stateOf}
 use Rattle.calendar.specs.Promises.{Names}
 use Rattle.calendar.proofs.Tests.{none-some, none-false}
 use Rattle.engine_events.specs.Shows.{Shows}
-use Rattle.engine_events.proofs.CalendarShown.{named-lowest, named-time, none-shows}
+use Rattle.engine_events.proofs.CalendarShown.{shows-times, named-lowest, named-time, none-shows}
 use Rattle.engine_index.specs.Represents.{Cell}
-use Rattle.engine_events.specs.Represents.{fitsIn, calendarAt, part, Holds}
+use Rattle.engine_events.specs.Represents.{fitsIn, calendarAt, part, Calendared, Holds}
 use Rattle.engine_events.specs.Promises.{Finds}
 use Rattle.engine_events.proofs.Fitting.{fits-gone}
 
@@ -44,20 +46,30 @@ inside {n} {s} {t} {ts} A L = go (lt-or s n)
     go (inl l) = l
     go (inr l) = absurd (none-some (sym (List·getD-eq-default ts none (omega (arith, A .length-is))) ∙ L .has))
 
+-- the calendar's count is that of the leaf width, the commit time and what is registered
+counted : {setting : Setting} {n c now : ℕ} {xs : List ℕ} {h : List Held} → Calendared setting n c now xs h
+    → wordsOf (stateOf (part n c xs)) ≡ wordsRead 16 (setting .width) now (registeredFrom h 0 n)
+counted C = rw (C .width, C .floor, shows-times (C .shows))
+
 pub finds : (n c : ℕ) {start end : ℕ} (xs : List ℕ) {r : Least} → start ≡ calendarAt n c → end ≡ start + 32768 + 64 * n
     → fitsIn n c (length xs) ≡ true → Names (take (end - start) (drop start xs)) r → Finds n c xs r
 finds n c {start} {end} xs {r} ls le fit N =
     record {
       unfit = λ z. absurd (true≢false (sym fit ∙ z));
       idle = names .idle;
-      none = λ p now q cells H e k.
+      none = λ p setting now q cells H e k.
           let A = H .calendar .shows in
           let v : refused (numberOf e) ≡ judged (lowestChecks (stateOf (part n c xs))) = rw k at (names .answer (H .calendar .sound)) in
           sym (none-shows A) ∙ idle (stateOf (part n c xs) .times) (numberOf e) v;
-      some = λ p now q cells H s t k.
+      some = λ p setting now q cells H s t k e.
           let A = H .calendar .shows in
-          let L = names .least (H .calendar .sound) s t k in
-          (sym (none-shows A) ∙ none-false (stateOf (part n c xs) .times) s t (L .has), inside A L, named-lowest A L, named-time A L);
+          let L = names .least (H .calendar .sound) s t k e in (
+            sym (none-shows A) ∙ none-false (stateOf (part n c xs) .times) s t (L .has),
+            inside A L,
+            named-lowest A L,
+            named-time A L,
+            names .words (H .calendar .sound) s t k e ∙ counted (H .calendar),
+          );
     }
   where
     names : Names (part n c xs) r
@@ -69,18 +81,18 @@ finds n c {start} {end} xs {r} ls le fit N =
 -- ---- nothing is held: the numbers are out of range, or there is no slot
 
 abbrev pub Nothing : ℕ → ℕ → List ℕ → Type 0
-Nothing n c xs = (p : Plan) (now : ℕ) (q : Queue) (cells : List Cell) → Holds p n c now xs q cells → ⊥
+Nothing n c xs = (p : Plan) (setting : Setting) (now : ℕ) (q : Queue) (cells : List Cell) → Holds p setting n c now xs q cells → ⊥
 
 pub nothing-fits : (n c : ℕ) (xs : List ℕ) {r : Bool} → r ≡ fitsIn n c (length xs) → r ≡ false → Nothing n c xs
-nothing-fits n c xs e z p now q cells H = fits-gone e z (H .stores)
+nothing-fits n c xs e z p setting now q cells H = fits-gone e z (H .stores)
 
 pub nothing-slot : (n c : ℕ) (xs : List ℕ) → c ≤ 0 → Nothing n c xs
-nothing-slot n c xs z p now q cells H = omega (arith, H .stores .some)
+nothing-slot n c xs z p setting now q cells H = omega (arith, H .stores .some)
 
 pub finds-none : (n c : ℕ) (xs : List ℕ) → Nothing n c xs → Finds n c xs (NoLeast Idle)
 finds-none n c xs N = record {
   unfit = λ _. refl;
   idle = λ e k. let z : Idle ≡ e = cc in sym z;
-  none = λ p now q cells H e k. absurd (N p now q cells H);
-  some = λ p now q cells H s t k. absurd (N p now q cells H);
+  none = λ p setting now q cells H e k. absurd (N p setting now q cells H);
+  some = λ p setting now q cells H s t k e. absurd (N p setting now q cells H);
 }

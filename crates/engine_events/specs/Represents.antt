@@ -12,11 +12,12 @@ use Rattle.words.specs.Le.{loadAt}
 use Rattle.line.specs.declared.Event.{Event}
 use Rattle.line.specs.declared.State.{State}
 use Rattle.line.specs.Station.{Plan, runEvent}
-use Rattle.rules.specs.Held.{Held, ran, event, In, Queue, registered}
+use Rattle.rules.specs.Held.{Held, ran, event, In, Queue, asTime, registered}
+use Rattle.rules.specs.Engine.{Setting}
 use Rattle.engine_rows.specs.Layout.{stationRow, slotRow}
 use Rattle.engine_records.specs.Records.{stateAt, storedConfig}
 use Rattle.calendar.specs.Bytes.{Sound, stateOf}
-use Rattle.engine_events.specs.Shows.{asTime, Inside, Shows}
+use Rattle.engine_events.specs.Shows.{Inside, Shows}
 use Rattle.engine_index.specs.Layout.{nodesOf, slotOf, logAt}
 use Rattle.engine_index.specs.Represents.{Cell, cell, Stands}
 
@@ -81,21 +82,23 @@ pub record Stores (p : Plan) (n c now : ℕ) (xs : List ℕ) (q : Queue) (cells 
   pub times : (y : Held) → In y (q .held) → (now ≤ event y .time) × (event y .time ≤ horizon)
   pub kids : Kids p n xs cells
 
--- the calendar's part is a calendar with the floor `now` that shows the held events: it has "each station that has an unrun event, at the time of
--- its least one, and no other"
-pub record Calendared (n c now : ℕ) (xs : List ℕ) (h : List Held) : Type 0 where
+-- the calendar's part is a calendar of the leaf width that the opening chose, with the floor `now`, that shows the held events: it has "each station that
+-- has an unrun event, at the time of its least one, and no other"
+pub record Calendared (setting : Setting) (n c now : ℕ) (xs : List ℕ) (h : List Held) : Type 0 where
   pub sound : Sound (part n c xs)
+  pub width : stateOf (part n c xs) .width ≡ setting .width
   pub floor : stateOf (part n c xs) .floor ≡ now
   pub shows : Shows n (stateOf (part n c xs) .times) h
 
 -- it does so but for station s, whose least unrun event may have changed
-pub record Untold (n c now s : ℕ) (xs : List ℕ) (h : List Held) : Type 0 where
+pub record Untold (setting : Setting) (n c now s : ℕ) (xs : List ℕ) (h : List Held) : Type 0 where
   pub sound : Sound (part n c xs)
+  pub width : stateOf (part n c xs) .width ≡ setting .width
   pub floor : stateOf (part n c xs) .floor ≡ now
   pub size : length (stateOf (part n c xs) .times) ≡ n
   pub others : (t : ℕ) → t < n → t ≢ s → getD (stateOf (part n c xs) .times) t noTime ≡ asTime (registered h t)
   pub inside : Inside n h
 
-pub record Holds (p : Plan) (n c now : ℕ) (xs : List ℕ) (q : Queue) (cells : List Cell) : Type 0 where
+pub record Holds (p : Plan) (setting : Setting) (n c now : ℕ) (xs : List ℕ) (q : Queue) (cells : List Cell) : Type 0 where
   pub stores : Stores p n c now xs q cells
-  pub calendar : Calendared n c now xs (q .held)
+  pub calendar : Calendared setting n c now xs (q .held)

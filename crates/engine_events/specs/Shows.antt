@@ -1,15 +1,10 @@
 -- A calendar's times show the held events: it has "each station that has an unrun event, at the time of its least one, and no other" (document 01, "Engine calls").
 use mathlib.Core.Path.{_≡_}
-use mathlib.Core.Option.{Option, none, some}
+use mathlib.Core.Option.{Option, none}
 use mathlib.Core.List.{List}
 use Prim.Native.Nat.{ℕ, _<_}
 use lib.ListN.{length, getD}
-use Rattle.rules.specs.Held.{Held, event, In, Registered, absent, at, registered}
-
--- what a calendar has for a station that is so registered
-unfoldable pub asTime : Registered → Option ℕ
-asTime absent = none
-asTime (at t) = some t
+use Rattle.rules.specs.Held.{Held, event, In, asTime, registered}
 
 -- every held event is at one of the n stations
 abbrev pub Inside : ℕ → List Held → Type 0

@@ -50,7 +50,7 @@ pub raised : (n c floor : ℕ) {start end : ℕ} (xs zs : List ℕ) {r : Answer}
     → AfterHeader xs (putMid start (end - start) xs zs) × Raises n c floor xs (putMid start (end - start) xs zs)
 raised n c floor {start} {end} xs zs {r} ls le long size O = (
   frame-wider 64 (length xs) (omega arith) (omega arith) (put .1 .1),
-  λ p now q cells H a b f.
+  λ p setting now q cells H a b f.
       let C = H .calendar in
       let O : Obeys (λ q. advanceChecks q floor) (λ q. advanced q floor) (part n c xs) r zs = rw (put .0) at O in
       let early = any-false floor (stateOf (part n c xs) .times)
@@ -61,6 +61,7 @@ raised n c floor {start} {end} xs zs {r} ls le long size O = (
         stores = stores-at floor f (stores-kept (put .1 .1) (inr (omega arith)) (H .stores));
         calendar = record {
           sound = rw (put .1 .0) (O .sound (C .sound));
+          width = rw (put .1 .0, state) (C .width);
           floor = rw (put .1 .0, state);
           shows = rw (put .1 .0, state) (C .shows);
         };
@@ -71,4 +72,4 @@ raised n c floor {start} {end} xs zs {r} ls le long size O = (
     put = part-put n c xs zs ls le long size
 
 pub raises-none : (n c floor : ℕ) (xs : List ℕ) → Nothing n c xs → AfterHeader xs xs × Raises n c floor xs xs
-raises-none n c floor xs N = (frame-same 64 (length xs) xs, λ p now q cells H _ _ _. absurd (N p now q cells H))
+raises-none n c floor xs N = (frame-same 64 (length xs) xs, λ p setting now q cells H _ _ _. absurd (N p setting now q cells H))

@@ -10,19 +10,18 @@ use Rattle.line.specs.declared.State.{State}
 use Rattle.line.specs.Event.{before}
 use Rattle.line.specs.Station.{Plan, InRange, initial, update, runEvent}
 use Rattle.rules.specs.Held.{Held, unrun, ran, event, In, Queue, same, unmark, delete, place, mark, some, leastUnrun}
-use Rattle.rules.specs.Engine.{opened}
+use Rattle.rules.specs.Engine.{Setting, chosen, opened}
 use Rattle.rules.specs.Undo.{NoneLater}
-use Rattle.calendar.specs.Bytes.{stateOf}
 use Rattle.engine_rows.specs.Layout.{stationRow}
 use Rattle.line.specs.Widths.{EventFits, StateFits}
 use Rattle.engine_records.specs.Records.{stateAt, storedConfig}
 use Rattle.engine_index.specs.Represents.{Cell, cell}
-use Rattle.engine_events.specs.Represents.{fitsIn, part, heldOf, Has, From, nonzero, Nodes, Holds}
+use Rattle.engine_events.specs.Represents.{fitsIn, heldOf, Has, From, nonzero, Nodes, Holds}
 
 -- the bytes hold q, in cells that were among these
-pub record HoldsAmong (p : Plan) (n c now : ℕ) (ys : List ℕ) (q : Queue) (cells : List Cell) : Type 0 where
+pub record HoldsAmong (p : Plan) (setting : Setting) (n c now : ℕ) (ys : List ℕ) (q : Queue) (cells : List Cell) : Type 0 where
   pub after : List Cell
-  pub holds : Holds p n c now ys q after
+  pub holds : Holds p setting n c now ys q after
   pub from : From cells after
 
 -- ---- conditions on the held events
@@ -44,47 +43,52 @@ Unsent p x h = (y : Event) (b : State) → In (ran y b) h → (z : Event) → Li
 -- an event is held, unrun
 abbrev pub HoldsEvent : ℕ → ℕ → List ℕ → Event → ℕ → List ℕ → Type 0
 HoldsEvent n c xs e r ys =
-    (p : Plan) (now : ℕ) (q : Queue) (cells : List Cell) → Holds p n c now xs q cells → length cells < c → EventFits e → e .target < n
+    (p : Plan) (setting : Setting) (now : ℕ) (q : Queue) (cells : List Cell) → Holds p setting n c now xs q cells → length cells < c → EventFits e
+    → e .target < n
     → now ≤ e .time → e .time ≤ horizon → New e (q .held)
-    → HoldsAmong p n c now ys (record { states = q .states; held = place e (q .held) }) (cell r (unrun e) ∷ cells)
+    → HoldsAmong p setting n c now ys (record { states = q .states; held = place e (q .held) }) (cell r (unrun e) ∷ cells)
 
 -- the first unrun event of its station has run, and its sends are at these nodes
 abbrev pub RunsEvent : ℕ → ℕ → List ℕ → ℕ → State → ℕ → ℕ → List ℕ → Type 0
 RunsEvent n c xs x after first second ys =
-    (p : Plan) (now : ℕ) (q : Queue) (cells : List Cell) (e : Event) → Holds p n c now xs q cells → Has (cell x (unrun e)) cells
+    (p : Plan) (setting : Setting) (now : ℕ) (q : Queue) (cells : List Cell) (e : Event) → Holds p setting n c now xs q cells
+    → Has (cell x (unrun e)) cells
     → leastUnrun (e .target) (q .held) ≡ some e → NoneLater e (q .held) → after ≡ runEvent p (q .states (e .target)) e .after → StateFits after
     → Nodes cells (nonzero first ++ nonzero second) (runEvent p (q .states (e .target)) e .sends)
-    → HoldsAmong p n c now ys (record { states = update (q .states) (e .target) after; held = mark (e .target) (q .states (e .target)) (q .held) }) cells
+    → HoldsAmong p setting n c now ys (record { states = update (q .states) (e .target) after; held = mark (e .target) (q .states (e .target)) (q .held) }) cells
 
 -- the last run event of its station is unrun again, and the station's state is that from before it
 abbrev pub UnrunsEvent : ℕ → ℕ → List ℕ → ℕ → Bool → List ℕ → Type 0
 UnrunsEvent n c xs x r ys =
-    (p : Plan) (now : ℕ) (q : Queue) (cells : List Cell) (e : Event) (b : State) → Holds p n c now xs q cells → Has (cell x (ran e b)) cells
+    (p : Plan) (setting : Setting) (now : ℕ) (q : Queue) (cells : List Cell) (e : Event) (b : State) → Holds p setting n c now xs q cells
+    → Has (cell x (ran e b)) cells
     → NoneLater e (q .held) → NoneWaits e (q .held)
-    → (r ≡ true) × HoldsAmong p n c now ys (record { states = update (q .states) (e .target) b; held = unmark e (q .held) }) cells
+    → (r ≡ true) × HoldsAmong p setting n c now ys (record { states = update (q .states) (e .target) b; held = unmark e (q .held) }) cells
 
 -- an unrun event leaves
 abbrev pub DiscardsEvent : ℕ → ℕ → List ℕ → ℕ → List ℕ → Type 0
 DiscardsEvent n c xs x ys =
-    (p : Plan) (now : ℕ) (q : Queue) (cells : List Cell) (e : Event) → Holds p n c now xs q cells → Has (cell x (unrun e)) cells
+    (p : Plan) (setting : Setting) (now : ℕ) (q : Queue) (cells : List Cell) (e : Event) → Holds p setting n c now xs q cells
+    → Has (cell x (unrun e)) cells
     → Unsent p e (q .held)
-    → HoldsAmong p n c now ys (record { states = q .states; held = delete e (q .held) }) cells
+    → HoldsAmong p setting n c now ys (record { states = q .states; held = delete e (q .held) }) cells
 
 -- the first of all held events, a run one, leaves
 abbrev pub ReleasesEvent : ℕ → ℕ → List ℕ → ℕ → List ℕ → Type 0
 ReleasesEvent n c xs x ys =
-    (p : Plan) (now : ℕ) (q : Queue) (cells : List Cell) (e : Event) (b : State) → InRange p → Holds p n c now xs q (cell x (ran e b) ∷ cells)
-    → Holds p n c now ys (record { states = q .states; held = heldOf cells }) cells
+    (p : Plan) (setting : Setting) (now : ℕ) (q : Queue) (cells : List Cell) (e : Event) (b : State) → InRange p
+    → Holds p setting n c now xs q (cell x (ran e b) ∷ cells)
+    → Holds p setting n c now ys (record { states = q .states; held = heldOf cells }) cells
 
 -- the commit time is raised
 abbrev pub Raises : ℕ → ℕ → ℕ → List ℕ → List ℕ → Type 0
 Raises n c floor xs ys =
-    (p : Plan) (now : ℕ) (q : Queue) (cells : List Cell) → Holds p n c now xs q cells → now ≤ floor → floor ≤ suc horizon
-    → ((y : Held) → In y (q .held) → floor ≤ event y .time) → Holds p n c floor ys q cells
+    (p : Plan) (setting : Setting) (now : ℕ) (q : Queue) (cells : List Cell) → Holds p setting n c now xs q cells → now ≤ floor → floor ≤ suc horizon
+    → ((y : Held) → In y (q .held) → floor ≤ event y .time) → Holds p setting n c floor ys q cells
 
--- no event is held, at the stations that stand there with their first states, and the calendar has that leaf width; whatever else the bytes held
+-- no event is held, at the stations that stand there with their first states, by a calendar of that leaf width; whatever else the bytes held
 abbrev pub ClearsEvents : ℕ → ℕ → ℕ → List ℕ → List ℕ → Type 0
 ClearsEvents n c width xs ys =
     (p : Plan) → p .count ≡ n → 1 ≤ n → 1 ≤ c → fitsIn n c (length xs) ≡ true → 1 ≤ width → width ≤ 1048576
     → ((s : ℕ) → s < n → storedConfig (stationRow n s) xs ≡ p .config s) → ((s : ℕ) → s < n → stateAt (stationRow n s + 32) xs ≡ initial p s)
-    → Holds p n c 0 ys (opened p c .queue) [] × (stateOf (part n c ys) .width ≡ width)
+    → Holds p (chosen width c) n c 0 ys (opened p (chosen width c) .queue) []

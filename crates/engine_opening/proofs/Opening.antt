@@ -15,7 +15,7 @@ use Rattle.refusal.proofs.CheckingOrder.{first-mapped, first-judged}
 use Rattle.words.specs.Le.{storeAt}
 use Rattle.words.proofs.Laws.{length-store}
 use Rattle.line.specs.Station.{InRange, initial}
-use Rattle.rules.specs.Engine.{opened}
+use Rattle.rules.specs.Engine.{chosen, opened}
 use Rattle.rules.specs.Demand.{end}
 use Rattle.plan_format.specs.declared.ReadAnswer.{ReadAnswer}
 use Rattle.plan_format.specs.declared.ReadAnswer.the-variants.{Stations, Refused as Unread}
@@ -25,8 +25,7 @@ use Rattle.plan_format.proofs.Accepted.{Accepted, accepted, accepted-in-range}
 use Rattle.engine_rows.specs.Layout.{stationRow}
 use Rattle.engine_records.specs.Records.{stateAt, storedConfig}
 use Rattle.engine_rows.proofs.Rows.{word-in, config-in, state-in, header-station, row-other}
-use Rattle.calendar.specs.Bytes.{stateOf}
-use Rattle.engine_events.specs.Represents.{part, Holds}
+use Rattle.engine_events.specs.Represents.{Holds}
 use Rattle.engine_events.specs.Promises.{AfterHeader}
 use Rattle.engine_moves.specs.Promises.{ClearsEvents}
 use Rattle.engine_events.proofs.Fitting.{fits-in}
@@ -126,19 +125,13 @@ module _ {plan : List ℕ} {n c width : ℕ} {xs ys zs : List ℕ} (e : judging 
   size : length (headed n c ys) ≡ length xs
   size = length-headed n c ys ∙ B .size
 
-  clears : Holds (lineOf plan) n c 0 zs (opened (lineOf plan) c .queue) [] × (stateOf (part n c zs) .width ≡ width)
-  clears = C (lineOf plan) counts (a .some) (omega arith) (fits-in n c (length (headed n c ys)) (a .most) k (rw size l)) g h configs states
-
-  holds : Holds (lineOf plan) n c 0 zs (opened (lineOf plan) c .queue) []
-  holds = clears .0
-
-  wide-as : stateOf (part (count plan) c zs) .width ≡ width
-  wide-as = ap (λ (m : ℕ). stateOf (part m c zs) .width) (sym (a .counted)) ∙ clears .1
+  holds : Holds (lineOf plan) (chosen width c) n c 0 zs (opened (lineOf plan) (chosen width c) .queue) []
+  holds = C (lineOf plan) counts (a .some) (omega arith) (fits-in n c (length (headed n c ys)) (a .most) k (rw size l)) g h configs states
 
   long : 64 ≤ length ys
   long = omega (arith, B .size)
 
-  opens : Represents (lineOf plan) (opened (lineOf plan) c) zs
+  opens : Represents (lineOf plan) (opened (lineOf plan) (chosen width c)) zs
   unfolding opened
   opens = record {
     range = line-range plan n e;
@@ -156,7 +149,7 @@ module _ {plan : List ℕ} {n c width : ℕ} {xs ys zs : List ℕ} (e : judging 
         header-kept F 3 (omega arith)
         ∙ header-word 3 0 (storeAt 8 16 0 (storeAt 8 8 c (storeAt 8 0 n ys))) (omega arith) (rw (length-store, length-store, length-store) long) (omega arith);
     cells = [];
-    holds = subst (λ (m : ℕ). Holds (lineOf plan) m c 0 zs (opened (lineOf plan) c .queue) []) (sym counts) holds;
+    holds = subst (λ (m : ℕ). Holds (lineOf plan) (chosen width c) m c 0 zs (opened (lineOf plan) (chosen width c) .queue) []) (sym counts) holds;
   }
 
 -- ---- the call
@@ -181,7 +174,6 @@ unopened {plan} {width} {capacity} {xs} r e = record {
   station = station-is plan width capacity xs e;
   refusal = λ f q. refl;
   opens = λ q. let z : _≡_ {A = ℕ} 0 1 = cc in absurd (omega arith);
-  width-is = λ q. let z : _≡_ {A = ℕ} 0 1 = cc in absurd (omega arith);
 }
 
 pub unread : {plan : List ℕ} {width capacity : ℕ} {xs : List ℕ} (r : Refusal) → Unread r ≡ judging plan → Opens plan width capacity xs (Unopened r) xs
@@ -201,5 +193,4 @@ opened-call {plan} {n} {c} {width} {xs} {y₀} {y₁} {y₂} {y₃} {y₄} {zs} 
       station = station-is plan width c xs d;
       refusal = λ r z. let z : _≡_ {A = ℕ} 0 1 = cc in absurd (omega arith);
       opens = λ _. opens e g h j k l B F′ C′;
-      width-is = λ _. wide-as e g h j k l B F′ C′;
     }

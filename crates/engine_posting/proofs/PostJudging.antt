@@ -34,7 +34,7 @@ module _ {xs : List ℕ} {n c : ℕ} (S : n ≡ atMost 256 (loadAt 8 0 xs)) (K :
   stations-are : {p : Plan} {e : Engine} → Represents p e xs → p .count ≡ n
   stations-are R = fits-read R S K .0
 
-  capacity-is : {p : Plan} {e : Engine} → Represents p e xs → e .capacity ≡ c
+  capacity-is : {p : Plan} {e : Engine} → Represents p e xs → e .setting .capacity ≡ c
   capacity-is R = fits-read R S K .1
 
   pub station-out : n ≤ s → JudgesCall (Post s t kind value) (refused 9) xs
@@ -70,8 +70,8 @@ module _ {xs : List ℕ} {n c : ℕ} (S : n ≡ atMost 256 (loadAt 8 0 xs)) (K :
                   says = λ p e R.
                       let a = stations-are R in
                       let b = capacity-is R in
-                      let g : Full (p .count) (e .capacity) xs true = rw (a, b) f in
-                      let y = leb-true (e .capacity) (length (R .cells)) (sym (g p (e .now) (e .queue) (R .cells) (R .holds))) in
+                      let g : Full (p .count) (e .setting .capacity) xs true = rw (a, b) f in
+                      let y = leb-true (e .setting .capacity) (length (R .cells)) (sym (g p (e .setting) (e .now) (e .queue) (R .cells) (R .holds))) in
                       post-17 p e s t kind value (omega arith) m (rw a k) l (omega (arith, i, R .now)) (omega (arith, j, R .next))
                       (omega (arith, y, held-length (R .cells), ap length (R .holds .stores .held)));
                 }
@@ -83,8 +83,8 @@ module _ {xs : List ℕ} {n c : ℕ} (S : n ≡ atMost 256 (loadAt 8 0 xs)) (K :
                 says = λ p e R.
                     let a = stations-are R in
                     let b = capacity-is R in
-                    let g : Full (p .count) (e .capacity) xs false = rw (a, b) f in
-                    let y = leb-false (e .capacity) (length (R .cells)) (sym (g p (e .now) (e .queue) (R .cells) (R .holds))) in
+                    let g : Full (p .count) (e .setting .capacity) xs false = rw (a, b) f in
+                    let y = leb-false (e .setting .capacity) (length (R .cells)) (sym (g p (e .setting) (e .now) (e .queue) (R .cells) (R .holds))) in
                     post-accepted p e s t kind value (omega arith) m (rw a k) l (omega (arith, i, R .now)) (omega (arith, j, R .next))
                     (omega (arith, y, held-length (R .cells), ap length (R .holds .stores .held)));
               };

@@ -12,6 +12,7 @@ use Rattle.line.specs.declared.Event.{Event}
 use Rattle.line.specs.Event.{posted}
 use Rattle.line.specs.Station.{Plan}
 use Rattle.rules.specs.Held.{Held, unrun, ran, event, Queue, Found, heldPost}
+use Rattle.rules.specs.Engine.{Setting}
 use Rattle.engine_rows.specs.Layout.{slotRow}
 use Rattle.entry.specs.Entry.{eventAt}
 use Rattle.engine_index.specs.Layout.{slotOf}
@@ -59,7 +60,8 @@ unfolding heldPost
 none-held number [] f = refl
 none-held number (y ∷ ys) f = rw (f y (List·Memᴰ·head refl)) (none-held number ys (λ z m. f z (List·Memᴰ·tail m)))
 
-module _ {p : Plan} {n c now : ℕ} {xs : List ℕ} {q : Queue} {cells : List Cell} (H : Holds p n c now xs q cells) (number : ℕ) where
+module _ {p : Plan} {setting : Setting} {n c now : ℕ} {xs : List ℕ} {q : Queue} {cells : List Cell} (H : Holds p setting n c now xs q cells)
+    (number : ℕ) where
   pub no-post : ((i : ℕ) → i < c → isPostAt xs n i number ≡ false) → heldPost number (q .held) ≡ Found.none
   no-post f =
       rw (sym (H .stores .held))
@@ -86,8 +88,8 @@ module _ {p : Plan} {n c now : ℕ} {xs : List ℕ} {q : Queue} {cells : List Ce
 -- ---- the search
 
 pub finds-none : (n c number : ℕ) (xs : List ℕ) → ((i : ℕ) → i < c → isPostAt xs n i number ≡ false) → FindsPost n c number xs 0
-finds-none n c number xs f = record { none = λ p now q cells H e. no-post H number f; some = λ p now q cells H d. absurd (d refl) }
+finds-none n c number xs f = record { none = λ p setting now q cells H e. no-post H number f; some = λ p setting now q cells H d. absurd (d refl) }
 
 pub finds-at : (n c number : ℕ) (xs : List ℕ) (i : ℕ) {x : ℕ} → x ≡ 2 * n + 1 + i → i < c → isPostAt xs n i number ≡ true → FindsPost n c number xs x
 finds-at n c number xs i e l t =
-    rw e (record { none = λ p now q cells H z. absurd (omega arith); some = λ p now q cells H d. a-post H number i l t })
+    rw e (record { none = λ p setting now q cells H z. absurd (omega arith); some = λ p setting now q cells H d. a-post H number i l t })

@@ -48,7 +48,7 @@ use Rattle.engine_promises.proofs.Refused.{judged-refused}
 
 module _ {p : Plan} {e : Engine} {xs : List ℕ} (R : Represents p e xs) (s t kind value : ℕ) (a : judged (checks p e (Post s t kind value)) ≡ accepted)
     (m : Matter) (k : matterOf (p .count) kind value ≡ Means m) {node j : ℕ} {ys : List ℕ} (F : AfterHeader xs ys)
-    (D : Adds (p .count) (e .capacity) xs (postOf (e .next) s t m) node j ys) where
+    (D : Adds (p .count) (e .setting .capacity) xs (postOf (e .next) s t m) node j ys) where
   passes : PostPasses p e s t
   passes = post-passes p e s t kind value a
 
@@ -82,13 +82,13 @@ module _ {p : Plan} {e : Engine} {xs : List ℕ} (R : Represents p e xs) (s t ki
       let d = can-add p (R .range) (e .queue) (waiting R) (invariant R .machine .states) (invariant R .ok) (neat R) x in
       subst (Does p (Add x) (e .queue)) (does-agree p (d .1) (neat R) inside new .0) (d .1)
 
-  place : length (R .cells) < e .capacity
+  place : length (R .cells) < e .setting .capacity
   place = omega (arith, passes .place, held-length (R .cells), ap length (R .holds .stores .held))
 
-  comes : RollsTo p (p .count) (e .capacity) (e .now) j (e .queue) ys left (cell node (unrun x) ∷ R .cells)
+  comes : RollsTo p (e .setting) (p .count) (e .setting .capacity) (e .now) j (e .queue) ys left (cell node (unrun x) ∷ R .cells)
   unfolding x left postOf
   comes =
-      D p (e .now) (e .queue) (R .cells) (waiting R) (invariant R .machine .states) (mid R) place fits inside (passes .due) (passes .in-time) (as-new x (e .queue .held) new)
+      D p (e .setting) (e .now) (e .queue) (R .cells) (waiting R) (invariant R .machine .states) (mid R) place fits inside (passes .due) (passes .in-time) (as-new x (e .queue .held) new)
 
   count : undone (e .queue .held) (left .held) ≡ j
   count = omega (arith, undone-undos does (neat R) (inside, new), does-falls does (neat R) (inside, new), comes .undone)
@@ -132,7 +132,7 @@ pub added-post : {n c : ℕ} {x : Event} {xs ys zs : List ℕ} {node u : ℕ} �
     → AddsPost n c x xs u zs
 unfolding postOf
 added-post {n} {c} {x} {xs} {ys} {zs} {node} {u} F D y p e s t kind value R a B =
-    let D′ : Adds (p .count) (e .capacity) xs (postOf (e .next) s t (B .matter)) node u ys = by-is (B .stations) (B .capacity) (B .is) D in
+    let D′ : Adds (p .count) (e .setting .capacity) xs (postOf (e .next) s t (B .matter)) node u ys = by-is (B .stations) (B .capacity) (B .is) D in
     let q : x .number ≡ e .next = ap (λ (v : Event). v .number) (B .is) in
     rw (y, q, add-one) (posted-so R s t kind value a (B .matter) (B .means) F D′)
 

@@ -61,7 +61,7 @@ module _ {p : Plan} {e : Engine} {xs : List ℕ} (R : Represents p e xs) (number
 
   -- the post of node x is removed
   module _ (h : Held) {x k : ℕ} {ys : List ℕ} (m : Has (cell x h) (R .cells)) (s : event h .source ≡ posted) (l : event h .number ≡ number)
-      (F : AfterHeader xs ys) (D : Removes (p .count) (e .capacity) xs x k ys) where
+      (F : AfterHeader xs ys) (D : Removes (p .count) (e .setting .capacity) xs x k ys) where
     held : In h (e .queue .held)
     held = held-at m
 
@@ -77,17 +77,17 @@ module _ {p : Plan} {e : Engine} {xs : List ℕ} (R : Represents p e xs) (number
         let d = can-remove p (R .range) (e .queue) (waiting R) (invariant R .machine .states) (invariant R .ok) (neat R) (event h) i in
         subst (Does p (Remove (event h)) (e .queue)) (does-agree p (d .1) (neat R) .0) (d .1)
 
-    comes : RollsTo p (p .count) (e .capacity) (e .now) k (e .queue) ys left (R .cells)
+    comes : RollsTo p (e .setting) (p .count) (e .setting .capacity) (e .now) k (e .queue) ys left (R .cells)
     comes =
         let w = waits-inserted p (R .range) e (posts p 0 (made R)) (retracted (made R)) (logs (made R)) (invariant R) h held s in
-        let M : Mid p (p .count) (e .capacity) (e .now) xs (e .queue) (R .cells) (insertSorted (event h) (w .0)) (invariant R .machine .states) =
+        let M : Mid p (e .setting) (p .count) (e .setting .capacity) (e .now) xs (e .queue) (R .cells) (insertSorted (event h) (w .0)) (invariant R .machine .states) =
         record {
           range = R .range;
           holds = R .holds;
           ok = subst (λ (ws : List Event). Replayed p ws (invariant R .machine .states) (e .queue)) (w .1) (invariant R .ok);
           neat = neat R;
         } in
-        D p (e .now) (e .queue) (R .cells) (w .0) (invariant R .machine .states) h M m
+        D p (e .setting) (e .now) (e .queue) (R .cells) (w .0) (invariant R .machine .states) h M m
         (post-fresh p (R .range) e (posts p 0 (made R)) (retracted (made R)) (logs (made R)) (invariant R) h held s)
 
     count : undone (e .queue .held) (left .held) ≡ k
@@ -114,12 +114,13 @@ module _ {p : Plan} {e : Engine} {xs : List ℕ} (R : Represents p e xs) (number
     }
 
   -- as the call finds it
-  retract-found : {n c x k : ℕ} {ys : List ℕ} → p .count ≡ n → e .capacity ≡ c → FindsPost n c number xs x → x ≢ 0 → AfterHeader xs ys → Removes n c xs x k ys
+  retract-found : {n c x k : ℕ} {ys : List ℕ} → p .count ≡ n → e .setting .capacity ≡ c → FindsPost n c number xs x → x ≢ 0 → AfterHeader xs ys
+      → Removes n c xs x k ys
       → Becomes p e (Retract number) (Retracted k) ys
   retract-found {n} {c} {x} {k} {ys} a b f d F D =
-      let g : FindsPost (p .count) (e .capacity) number xs x = rw (a, b) f in
-      let D′ : Removes (p .count) (e .capacity) xs x k ys = rw (a, b) D in
-      let r = g .some p (e .now) (e .queue) (R .cells) (R .holds) d in
+      let g : FindsPost (p .count) (e .setting .capacity) number xs x = rw (a, b) f in
+      let D′ : Removes (p .count) (e .setting .capacity) xs x k ys = rw (a, b) D in
+      let r = g .some p (e .setting) (e .now) (e .queue) (R .cells) (R .holds) d in
       retract-some (r .0) (r .1) (r .2) (r .3) F D′
 
 -- ---- judging
@@ -132,17 +133,17 @@ retract-refused r f = record {
 }
 
 module _ {xs : List ℕ} {n c number x : ℕ} (k : n ≡ atMost 256 (loadAt 8 0 xs)) (m : c ≡ atMost 4096 (loadAt 8 8 xs)) (f : FindsPost n c number xs x) where
-  finds : {p : Plan} {e : Engine} → Represents p e xs → FindsPost (p .count) (e .capacity) number xs x
+  finds : {p : Plan} {e : Engine} → Represents p e xs → FindsPost (p .count) (e .setting .capacity) number xs x
   finds R = let w = fits-read R k m in rw (w .0, w .1) f
 
   pub unknown-post : x ≡ 0 → JudgesCall (Retract number) (refused 13) xs
-  unknown-post z = record { says = λ p e R. none-refused R number (finds R .none p (e .now) (e .queue) (R .cells) (R .holds) z) }
+  unknown-post z = record { says = λ p e R. none-refused R number (finds R .none p (e .setting) (e .now) (e .queue) (R .cells) (R .holds) z) }
 
   pub known-post : x ≢ 0 → JudgesRetract number xs (J.Accepts n c x)
   known-post d = record {
     number-is = record {
       says = λ p e R.
-          let g = finds R .some p (e .now) (e .queue) (R .cells) (R .holds) d in
+          let g = finds R .some p (e .setting) (e .now) (e .queue) (R .cells) (R .holds) d in
           some-accepted R number (the-held R number (g .0) (g .1) (g .2) (g .3));
     };
     numbers = λ n′ c′ x′ q p e R.

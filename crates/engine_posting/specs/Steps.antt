@@ -14,7 +14,7 @@ use Rattle.line.specs.Event.{posted}
 use Rattle.line.specs.Matter.{matterOf}
 use Rattle.line.specs.Station.{Plan}
 use Rattle.rules.specs.Held.{Held, event, Queue, Found, heldPost}
-use Rattle.rules.specs.Engine.{Engine, Post, Retract, Posted}
+use Rattle.rules.specs.Engine.{Setting, Engine, Post, Retract, Posted}
 use Rattle.rules.specs.Checks.{checks}
 use Rattle.rules.specs.Calls.{postOf}
 use Rattle.words.specs.Le.{loadAt}
@@ -38,8 +38,9 @@ isPostAt xs n i number =
 
 -- x is the node of a held post with that number; 0 where there is none
 pub record FindsPost (n c number : ℕ) (xs : List ℕ) (x : ℕ) : Type 0 where
-  pub none : (p : Plan) (now : ℕ) (q : Queue) (cells : List Cell) → Holds p n c now xs q cells → x ≡ 0 → heldPost number (q .held) ≡ Found.none
-  pub some : (p : Plan) (now : ℕ) (q : Queue) (cells : List Cell) → Holds p n c now xs q cells → x ≢ 0
+  pub none : (p : Plan) (setting : Setting) (now : ℕ) (q : Queue) (cells : List Cell) → Holds p setting n c now xs q cells → x ≡ 0
+      → heldPost number (q .held) ≡ Found.none
+  pub some : (p : Plan) (setting : Setting) (now : ℕ) (q : Queue) (cells : List Cell) → Holds p setting n c now xs q cells → x ≢ 0
       → (h : Held) × Has (cell x h) cells × (event h .source ≡ posted) × (event h .number ≡ number)
 
 -- ---- judging
@@ -52,7 +53,7 @@ postVerdict (P.Refused r) = refused (numberOf r)
 -- x is the event of the post, at an engine of n stations and c slots
 pub record PostIs (p : Plan) (e : Engine) (n c s t kind value : ℕ) (x : Event) : Type 0 where
   pub stations : p .count ≡ n
-  pub capacity : e .capacity ≡ c
+  pub capacity : e .setting .capacity ≡ c
   pub matter : Matter
   pub means : matterOf (p .count) kind value ≡ Means matter
   pub is : x ≡ postOf (e .next) s t matter

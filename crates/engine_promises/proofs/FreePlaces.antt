@@ -70,7 +70,7 @@ module _ {n c : ℕ} {xs : List ℕ} where
     -- ---- the answers
 
     pub full-is : Full n c xs (eqb x 0)
-    full-is p now u cells H = go (eqb x 0) refl
+    full-is p setting now u cells H = go (eqb x 0) refl
       where
         go : (v : Bool) → eqb x 0 ≡ v → v ≡ leb c (length cells)
         go true k =
@@ -81,17 +81,17 @@ module _ {n c : ℕ} {xs : List ℕ} where
             sym (lt-leb c (length cells) (omega (arith, z, H .stores .places)))
 
     pub room-none : x ≡ 0 → HasRoom n c xs 0
-    room-none e p now u cells H m l =
+    room-none e p setting now u cells H m l =
         let z = none-free (H .stores .free) (H .stores .stands) e in
         says-room (length cells) m (length (H .stores .free)) c 0 (H .stores .places) (λ k. omega arith) (λ k. omega arith)
 
     pub room-one : {u : ℕ} → u ≡ freeRing n % 65536 → x ≢ 0 → nextOf xs (linksAt n c) x ≡ u → HasRoom n c xs 1
-    room-one {u} g d e p now v cells H m l =
+    room-one {u} g d e p setting now v cells H m l =
         let y = some-free (H .stores .free) (H .stores .stands) d in
         let z = one-free u g (H .stores .free) (H .stores .stands) e in
         says-room (length cells) m (length (H .stores .free)) c 1 (H .stores .places) (λ k. omega arith) (λ k. omega arith)
 
     pub room-two : {u : ℕ} → u ≡ freeRing n % 65536 → x ≢ 0 → nextOf xs (linksAt n c) x ≢ u → HasRoom n c xs 2
-    room-two {u} g d e p now v cells H m l =
+    room-two {u} g d e p setting now v cells H m l =
         let z = two-free u g (H .stores .free) (H .stores .stands) d e in
         says-room (length cells) m (length (H .stores .free)) c 2 (H .stores .places) (λ k. omega arith) (λ k. omega arith)

@@ -11,7 +11,7 @@ use Rattle.words.specs.Le.{loadAt, storeAt}
 use Rattle.words.proofs.Laws.{load-stored, load-other}
 use Rattle.line.specs.Station.{Plan}
 use Rattle.rules.specs.Held.{Queue}
-use Rattle.rules.specs.Engine.{Engine}
+use Rattle.rules.specs.Engine.{Setting, Engine}
 use Rattle.rings.specs.Table.{Frame}
 use Rattle.rings.proofs.Frames.{store-frame, frame-wider}
 use Rattle.engine_rows.proofs.Rows.{words}
@@ -41,14 +41,15 @@ header-kept F i h = F .loads 8 (8 * i) (inr (omega arith))
 
 -- ---- what lies after
 
-pub header-holds : {p : Plan} {n c now : ℕ} {xs ys : List ℕ} {q : Queue} {cells : List Cell} → Frame 0 64 xs ys → Holds p n c now xs q cells
-    → Holds p n c now ys q cells
+pub header-holds : {p : Plan} {setting : Setting} {n c now : ℕ} {xs ys : List ℕ} {q : Queue} {cells : List Cell} → Frame 0 64 xs ys
+    → Holds p setting n c now xs q cells
+    → Holds p setting n c now ys q cells
 header-holds {n = n} {c = c} {xs = xs} {ys = ys} F H =
     let e : part n c ys ≡ part n c xs = part-kept n c F (omega arith) in
     let C = H .calendar in
     record {
       stores = stores-kept F (inl (omega arith)) (H .stores);
-      calendar = record { sound = rw e (C .sound); floor = rw e (C .floor); shows = rw e (C .shows) };
+      calendar = record { sound = rw e (C .sound); width = rw e (C .width); floor = rw e (C .floor); shows = rw e (C .shows) };
     }
 
 -- ---- what the header says of an engine
@@ -57,24 +58,24 @@ module _ {p : Plan} {e : Engine} {xs : List ℕ} (R : Represents p e xs) where
   pub stations-few : p .count ≤ 256
   stations-few = R .holds .stores .stands .stations
 
-  pub capacity-few : e .capacity ≤ 4096
+  pub capacity-few : e .setting .capacity ≤ 4096
   capacity-few = R .holds .stores .stands .capacity
 
   pub read-stations : atMost 256 (loadAt 8 0 xs) ≡ p .count
   read-stations = rw (R .stations, le-ltb 256 (p .count) stations-few)
 
-  pub read-capacity : atMost 4096 (loadAt 8 8 xs) ≡ e .capacity
-  read-capacity = rw (R .capacity, le-ltb 4096 (e .capacity) capacity-few)
+  pub read-capacity : atMost 4096 (loadAt 8 8 xs) ≡ e .setting .capacity
+  read-capacity = rw (R .capacity, le-ltb 4096 (e .setting .capacity) capacity-few)
 
-  pub long-enough : fitsIn (p .count) (e .capacity) (length xs) ≡ true
+  pub long-enough : fitsIn (p .count) (e .setting .capacity) (length xs) ≡ true
   long-enough = stores-fit (R .holds .stores)
 
   -- as a call reads it
   pub fits-read : {n c : ℕ} → n ≡ atMost 256 (loadAt 8 0 xs) → c ≡ atMost 4096 (loadAt 8 8 xs)
-      → (p .count ≡ n) × (e .capacity ≡ c) × (fitsIn n c (length xs) ≡ true)
+      → (p .count ≡ n) × (e .setting .capacity ≡ c) × (fitsIn n c (length xs) ≡ true)
   fits-read {n} {c} s k =
       let a : p .count ≡ n = sym read-stations ∙ sym s in
-      let b : e .capacity ≡ c = sym read-capacity ∙ sym k in
+      let b : e .setting .capacity ≡ c = sym read-capacity ∙ sym k in
       (a, b, rw (a, b) at long-enough)
 
 -- no engine where the test fails

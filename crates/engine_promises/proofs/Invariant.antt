@@ -18,7 +18,7 @@ module _ {p : Plan} {e : Engine} {xs : List ℕ} (r : Represents p e xs) where
   made = r .reached .calls
 
   pub invariant : Inv p e (posts p 0 made) (retracted made) (logs made)
-  invariant = after-calls p (r .range) (e .capacity) (r .reached .made) .0
+  invariant = after-calls p (r .range) (e .setting) (r .reached .made) .0
 
   pub neat : Neat p (e .queue .held)
   neat = held-neat p (r .range) e (posts p 0 made) (retracted made) (logs made) invariant
@@ -26,7 +26,7 @@ module _ {p : Plan} {e : Engine} {xs : List ℕ} (r : Represents p e xs) where
   abbrev pub waiting : List Event
   waiting = invariant .machine .waiting
 
-  pub mid : Mid p (p .count) (e .capacity) (e .now) xs (e .queue) (r .cells) (invariant .machine .waiting) (invariant .machine .states)
+  pub mid : Mid p (e .setting) (p .count) (e .setting .capacity) (e .now) xs (e .queue) (r .cells) (invariant .machine .waiting) (invariant .machine .states)
   mid = record { range = r .range; holds = r .holds; ok = invariant .ok; neat = neat }
 
 -- a call more
@@ -34,7 +34,7 @@ then : {p : Plan} {e f g : Engine} {ms : List Made} {m : Made} → Calls p e ms 
 then end a = next a end
 then (next b c) a = next b (then c a)
 
-pub reached-next : {p : Plan} {e f : Engine} {c : Call} {a : Answer} → Reached p e → Answers p e c a f → e .capacity ≡ f .capacity → Reached p f
+pub reached-next : {p : Plan} {e f : Engine} {c : Call} {a : Answer} → Reached p e → Answers p e c a f → e .setting ≡ f .setting → Reached p f
 reached-next {p} {e} {f} {c} {a} r d q = record {
   calls = r .calls ++ record { asked = c; said = a } ∷ [];
   made = subst (λ k. Calls p (opened p k) (r .calls ++ record { asked = c; said = a } ∷ []) f) q (then (r .made) d);

@@ -3,7 +3,7 @@ use Prim.Native.Nat.{ℕ}
 use mathlib.Core.List.{List, []}
 use Rattle.refusal.specs.Numbers.{numberOf, stationsOf}
 use Rattle.refusal.specs.Tests.{Verdict, accepted, refused}
-use Rattle.rules.specs.Engine.{Answer, Refused, Posted, Retracted, Ran, Committed, Recorded}
+use Rattle.rules.specs.Engine.{Answer, Refused, Posted, Retracted, Ran, RanLowest, Committed, Recorded}
 use Rattle.engine_answers.specs.declared.OpenAnswer.{OpenAnswer}
 use Rattle.engine_answers.specs.declared.OpenAnswer.the-variants as O
 use Rattle.engine_answers.specs.declared.PostAnswer.{PostAnswer}
@@ -12,6 +12,8 @@ use Rattle.engine_answers.specs.declared.RetractAnswer.{RetractAnswer}
 use Rattle.engine_answers.specs.declared.RetractAnswer.the-variants as T
 use Rattle.engine_answers.specs.declared.RunAnswer.{RunAnswer}
 use Rattle.engine_answers.specs.declared.RunAnswer.the-variants as R
+use Rattle.engine_answers.specs.declared.LowestAnswer.{LowestAnswer}
+use Rattle.engine_answers.specs.declared.LowestAnswer.the-variants as L
 use Rattle.engine_answers.specs.declared.CommitAnswer.{CommitAnswer}
 use Rattle.engine_answers.specs.declared.CommitAnswer.the-variants as C
 use Rattle.engine_answers.specs.declared.RecordAnswer.{RecordAnswer}
@@ -39,6 +41,11 @@ retractSaid (T.Refused e) = Refused (numberOf e)
 abbrev pub runSaid : RunAnswer → Answer
 runSaid (R.Done station undone) = Ran station undone
 runSaid (R.Refused e) = Refused (numberOf e)
+
+-- "run lowest passes the count on" (document 02, change 5)
+abbrev pub lowestSaid : LowestAnswer → Answer
+lowestSaid (L.Done station undone words) = RanLowest station undone words
+lowestSaid (L.Refused e) = Refused (numberOf e)
 
 -- "It answers their count", with the output as the call left it
 abbrev pub commitSaid : CommitAnswer → List ℕ → Answer

@@ -9,12 +9,10 @@ use Rattle.refusal.specs.Numbers.{stationsOf}
 use Rattle.refusal.specs.Tests.{widthOut, engineSpaceOut, judged}
 use Rattle.refusal.specs.Cases.{Case, gives, firstOf, checksOf}
 use Rattle.line.specs.Station.{Plan}
-use Rattle.rules.specs.Engine.{Engine, opened, Call, Answer, Refused}
+use Rattle.rules.specs.Engine.{chosen, Engine, opened, Call, Answer, Refused}
 use Rattle.rules.specs.Calls.{Answers}
 use Rattle.plan_format.specs.Plan.{count}
 use Rattle.plan_format.specs.Reading.{planCases}
-use Rattle.calendar.specs.Bytes.{stateOf}
-use Rattle.engine_events.specs.Represents.{part}
 use Rattle.engine_answers.specs.declared.OpenAnswer.{OpenAnswer}
 use Rattle.engine_answers.specs.declared.OpenAnswer.the-variants.{Done, Refused as Unopened}
 use Rattle.engine_promises.specs.Represents.{lineOf, Represents}
@@ -33,9 +31,7 @@ pub record Opens (plan : List ℕ) (width capacity : ℕ) (xs : List ℕ) (r : O
   pub number : openSays r ≡ judged (checksOf (openCases plan width capacity (length xs)))
   pub station : openStation r ≡ firstOf stationsOf (openCases plan width capacity (length xs)) []
   pub refusal : (e : Refusal) → r ≡ Unopened e → ys ≡ xs
-  pub opens : r ≡ Done → Represents (lineOf plan) (opened (lineOf plan) capacity) ys
-  -- its calendar has that leaf width
-  pub width-is : r ≡ Done → stateOf (part (count plan) capacity ys) .width ≡ width
+  pub opens : r ≡ Done → Represents (lineOf plan) (opened (lineOf plan) (chosen width capacity)) ys
 
 -- ---- the calls after it
 

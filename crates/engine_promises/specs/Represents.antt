@@ -18,15 +18,15 @@ lineOf plan = record { count = count plan; config = λ s. stationAt plan s .conf
 -- an engine that the rules make of an opening and calls after it
 pub record Reached (p : Plan) (e : Engine) : Type 0 where
   pub calls : List Made
-  pub made : Calls p (opened p (e .capacity)) calls e
+  pub made : Calls p (opened p (e .setting)) calls e
 
 -- the header's words: stations, capacity, commit time and the next post's number; after them the queue
 pub record Represents (p : Plan) (e : Engine) (xs : List ℕ) : Type 0 where
   pub range : InRange p
   pub reached : Reached p e
   pub stations : loadAt 8 (wordPlace stationsWord) xs ≡ p .count
-  pub capacity : loadAt 8 (wordPlace capacityWord) xs ≡ e .capacity
+  pub capacity : loadAt 8 (wordPlace capacityWord) xs ≡ e .setting .capacity
   pub now : loadAt 8 (wordPlace commitTimeWord) xs ≡ e .now
   pub next : loadAt 8 (wordPlace nextPostWord) xs ≡ e .next
   pub cells : List Cell
-  pub holds : Holds p (p .count) (e .capacity) (e .now) xs (e .queue) cells
+  pub holds : Holds p (e .setting) (p .count) (e .setting .capacity) (e .now) xs (e .queue) cells

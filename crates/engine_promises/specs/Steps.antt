@@ -8,7 +8,7 @@ use lib.ListN.{length}
 use Rattle.refusal.specs.Tests.{Verdict, judged}
 use Rattle.line.specs.Station.{Plan}
 use Rattle.rules.specs.Held.{Queue}
-use Rattle.rules.specs.Engine.{Engine, Call}
+use Rattle.rules.specs.Engine.{Setting, Engine, Call}
 use Rattle.rules.specs.Checks.{checks}
 use Rattle.engine_index.specs.Represents.{Cell}
 use Rattle.engine_events.specs.Represents.{Holds}
@@ -28,17 +28,18 @@ pub record JudgesCall (call : Call) (v : Verdict) (xs : List ℕ) : Type 0 where
 
 -- n and c are the line's numbers of stations and slots
 abbrev pub Numbered : ℕ → ℕ → List ℕ → Type 0
-Numbered n c xs = (p : Plan) (e : Engine) → Represents p e xs → (p .count ≡ n) × (e .capacity ≡ c)
+Numbered n c xs = (p : Plan) (e : Engine) → Represents p e xs → (p .count ≡ n) × (e .setting .capacity ≡ c)
 
 -- ---- post
 
 -- is no place free?
 abbrev pub Full : ℕ → ℕ → List ℕ → Bool → Type 0
-Full n c xs r = (p : Plan) (now : ℕ) (q : Queue) (cells : List Cell) → Holds p n c now xs q cells → r ≡ leb c (length cells)
+Full n c xs r = (p : Plan) (setting : Setting) (now : ℕ) (q : Queue) (cells : List Cell) → Holds p setting n c now xs q cells → r ≡ leb c (length cells)
 
 -- ---- run
 
 -- so many places are free, and 2 where more are
 abbrev pub HasRoom : ℕ → ℕ → List ℕ → ℕ → Type 0
 HasRoom n c xs r =
-    (p : Plan) (now : ℕ) (q : Queue) (cells : List Cell) → Holds p n c now xs q cells → (m : ℕ) → m ≤ 2 → leb m r ≡ leb (length cells + m) c
+    (p : Plan) (setting : Setting) (now : ℕ) (q : Queue) (cells : List Cell) → Holds p setting n c now xs q cells → (m : ℕ) → m ≤ 2
+    → leb m r ≡ leb (length cells + m) c

@@ -12,6 +12,7 @@ use Rattle.line.specs.Event.{before}
 use Rattle.line.specs.Station.{Plan, States}
 use Rattle.line.specs.Order.{Lt, All}
 use Rattle.rules.specs.Held.{unrun, event, Queue, same, place}
+use Rattle.rules.specs.Engine.{Setting}
 use Rattle.rules.specs.Executable.{runs, undoFrom, adding}
 use Rattle.rules.specs.Replay.{Clear}
 use Rattle.line.proofs.Members.{all-in, in-all}
@@ -44,8 +45,8 @@ new-lt y e s n = go (before y e) refl
     go true t = record { is = t }
     go false t = let k : _≡_ {A = Bool} true false = (rw (t, n) at s) in absurd (true≢false k)
 
-module _ {p : Plan} {n c now : ℕ} {xs : List ℕ} {q : Queue} {cells : List Cell} {ws : List Event} {st : States}
-    (M : Mid p n c now xs q cells ws st) (e : Event) (N : New e (q .held)) where
+module _ {p : Plan} {setting : Setting} {n c now : ℕ} {xs : List ℕ} {q : Queue} {cells : List Cell} {ws : List Event} {st : States}
+    (M : Mid p setting n c now xs q cells ws st) (e : Event) (N : New e (q .held)) where
   -- undoing from e on leaves no more events, as it is undoing the later ones where e is not held
   no-more : length (undoFrom p q (e .target) e .held) ≤ length (q .held)
   no-more = subst (λ (r : Queue). length (r .held) ≤ length (q .held)) (sym left) (omega (arith, does-length (C .does)))
@@ -65,8 +66,8 @@ module _ {p : Plan} {n c now : ℕ} {xs : List ℕ} {q : Queue} {cells : List Ce
       left = does-agree p (C .does) (M .neat) .0 ∙ undo-none p (C .left) (e .target) e (clear-none (e .target) e (C .left .held) clear)
 
   pub added : {k r : ℕ} {ys zs : List ℕ} → length cells < c → EventFits e → e .target < n → now ≤ e .time → e .time ≤ horizon
-      → RollsTo p n c now k q ys (undoFrom p q (e .target) e) cells → HoldsEvent n c ys e r zs
-      → RollsTo p n c now k q zs (adding p q e) (cell r (unrun e) ∷ cells)
+      → RollsTo p setting n c now k q ys (undoFrom p q (e .target) e) cells → HoldsEvent n c ys e r zs
+      → RollsTo p setting n c now k q zs (adding p q e) (cell r (unrun e) ∷ cells)
   unfolding adding
   added {k} {r} {ys} {zs} room fits inside early late C T = record {
     becomes = record { after = D .after; holds = D .holds; from = from-on (from-under (B .from)) (D .from) };
@@ -76,7 +77,7 @@ module _ {p : Plan} {n c now : ℕ} {xs : List ℕ} {q : Queue} {cells : List Ce
       u : Queue
       u = undoFrom p q (e .target) e
 
-      B : HoldsAmong p n c now ys u cells
+      B : HoldsAmong p setting n c now ys u cells
       B = C .becomes
 
       short : length (B .after) < c
@@ -86,5 +87,5 @@ module _ {p : Plan} {n c now : ℕ} {xs : List ℕ} {q : Queue} {cells : List Ce
       new : New e (u .held)
       new = subst (λ h. New e h) (B .holds .stores .held) (still-new e (B .from) (subst (λ h. New e h) (sym (M .holds .stores .held)) N))
 
-      D : HoldsAmong p n c now zs (record { states = u .states; held = place e (u .held) }) (cell r (unrun e) ∷ B .after)
-      D = T p now u (B .after) (B .holds) short fits inside early late new
+      D : HoldsAmong p setting n c now zs (record { states = u .states; held = place e (u .held) }) (cell r (unrun e) ∷ B .after)
+      D = T p setting now u (B .after) (B .holds) short fits inside early late new

@@ -9,6 +9,7 @@ use Rattle.line.specs.declared.State.{State}
 use Rattle.line.specs.Station.{Plan, States, update, runEvent}
 use Rattle.line.specs.Order.{Ge, All}
 use Rattle.rules.specs.Held.{ran, event, In, Queue, unmark}
+use Rattle.rules.specs.Engine.{Setting}
 use Rattle.rules.specs.Undo.{NoneLater}
 use Rattle.rules.specs.Executable.{runs, removeAll, undoEvent}
 use Rattle.line.proofs.All.{all-both}
@@ -39,8 +40,9 @@ nothing-left : {cells : List Cell} {es : List Event} (p : Plan) (q : Queue) → 
 unfolding removeAll
 nothing-left p q none = refl
 
-module _ {p : Plan} {n c now : ℕ} {xs : List ℕ} {q : Queue} {cells : List Cell} {ws : List Event} {st : States} {e : Event} {b : State} {x : ℕ}
-    (M : Mid p n c now xs q cells ws st) (m : Has (cell x (ran e b)) cells) (N : NoneLater e (q .held)) where
+module _ {p : Plan} {setting : Setting} {n c now : ℕ} {xs : List ℕ} {q : Queue} {cells : List Cell} {ws : List Event} {st : States} {e : Event}
+    {b : State} {x : ℕ}
+    (M : Mid p setting n c now xs q cells ws st) (m : Has (cell x (ran e b)) cells) (N : NoneLater e (q .held)) where
   abbrev es : List Event
   es = runEvent p b e .sends
 
@@ -64,8 +66,8 @@ module _ {p : Plan} {n c now : ℕ} {xs : List ℕ} {q : Queue} {cells : List Ce
   sent : All (Child e) es
   sent = all-both (λ y l d. record { later = l; down = d }) es (sends-later p (M .range) b e inside) (sends-down p (M .range) b e inside)
 
-  due-here : {ys : List ℕ} {ks : List ℕ} → (B : HoldsAmong p n c now ys unrunning cells) → Nodes cells ks es
-      → Due p n c now ys unrunning (B .after) ks es ws st e
+  due-here : {ys : List ℕ} {ks : List ℕ} → (B : HoldsAmong p setting n c now ys unrunning cells) → Nodes cells ks es
+      → Due p setting n c now ys unrunning (B .after) ks es ws st e
   due-here {ys} {ks} B K =
       let A = found-after p (M .range) q (e .target) e e b (unmark e (q .held)) ws st (M .ok) lat in
       record {
@@ -83,29 +85,29 @@ module _ {p : Plan} {n c now : ℕ} {xs : List ℕ} {q : Queue} {cells : List Ce
   kids = rw append-nil (M .holds .stores .kids x e b m)
 
   pub undone : {k₁ k₂ r₁ r₂ : ℕ} {ys zs us : List ℕ} → k₁ ≡ loadAt 2 (slotRow n (slotOf n x) + 56) xs → k₂ ≡ loadAt 2 (slotRow n (slotOf n x) + 58) xs
-      → HoldsAmong p n c now ys unrunning cells
+      → HoldsAmong p setting n c now ys unrunning cells
       → (k₁ ≡ 0 → (r₁ ≡ 0) × (zs ≡ ys)) → RemovesBelow n c ys (e .target) k₁ r₁ zs
       → (k₂ ≡ 0 → (r₂ ≡ 0) × (us ≡ zs)) → RemovesBelow n c zs (e .target) k₂ r₂ us
-      → RollsTo p n c now (1 + r₁ + r₂) q us (undoEvent p q (e .target) e b (unmark e (q .held))) cells
+      → RollsTo p setting n c now (1 + r₁ + r₂) q us (undoEvent p q (e .target) e b (unmark e (q .held))) cells
   unfolding undoEvent
   undone {k₁} {k₂} {r₁} {r₂} {ys} {zs} {us} a₁ a₂ B Z₁ R₁ Z₂ R₂ = go (last .rest) (last .due) (last .same)
     where
-      first : Partly p n c now r₁ zs unrunning (B .after) (nonzero k₂ ++ []) es ws st e
+      first : Partly p setting n c now r₁ zs unrunning (B .after) (nonzero k₂ ++ []) es ws st e
       first = partly k₁ (due-here B (rw (a₁, a₂) kids)) Z₁ R₁
 
-      last : Partly p n c now r₂ us (first .queue) (first .after) [] (first .rest) ws st e
+      last : Partly p setting n c now r₂ us (first .queue) (first .after) [] (first .rest) ws st e
       last = partly k₂ (first .due) Z₂ R₂
 
       count : 1 + r₁ + r₂ + runs (last .queue .held) ≡ runs (q .held)
       count = omega (arith, first .undone, last .undone, found-runs lat)
 
-      go : (rest : List Event) → Due p n c now us (last .queue) (last .after) [] rest ws st e
+      go : (rest : List Event) → Due p setting n c now us (last .queue) (last .after) [] rest ws st e
           → removeAll p (first .rest) (first .queue) ≡ removeAll p rest (last .queue)
-          → RollsTo p n c now (1 + r₁ + r₂) q us (removeAll p es unrunning) cells
+          → RollsTo p setting n c now (1 + r₁ + r₂) q us (removeAll p es unrunning) cells
       go rest D q₂ = record {
         becomes = record {
           after = last .after;
-          holds = subst (λ r. Holds p n c now us r (last .after)) (sym (first .same ∙ q₂ ∙ nothing-left p (last .queue) (D .nodes))) (D .mid .holds);
+          holds = subst (λ r. Holds p setting n c now us r (last .after)) (sym (first .same ∙ q₂ ∙ nothing-left p (last .queue) (D .nodes))) (D .mid .holds);
           from = from-on (B .from) (from-on (first .from) (last .from));
         };
         undone = subst (λ (r : Queue). 1 + r₁ + r₂ + runs (r .held) ≡ runs (q .held)) (sym (first .same ∙ q₂ ∙ nothing-left p (last .queue) (D .nodes))) count;

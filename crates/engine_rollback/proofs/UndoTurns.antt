@@ -12,6 +12,7 @@ use Rattle.line.specs.Station.{Plan, States}
 use Rattle.line.specs.Order.{Lt, Ge}
 use Rattle.line.proofs.Order.{ge-lt}
 use Rattle.rules.specs.Held.{ran, In, Queue, unmark}
+use Rattle.rules.specs.Engine.{Setting}
 use Rattle.rules.specs.Undo.{NoneLater}
 use Rattle.rules.specs.Executable.{runs, undoFrom, undoEvent}
 use Rattle.rules.specs.Replay.{Clear}
@@ -31,10 +32,11 @@ use Rattle.engine_ends.specs.Ends.{lastRun}
 use Rattle.engine_rollback.proofs.LatestRun.{Top, empty, latest, top, placed, event-of}
 
 -- so far k events are undone, and what the bytes hold leaves the rest to undo
-pub record Going (p : Plan) (n c now s : ℕ) (e : Event) (k : ℕ) (q : Queue) (cells : List Cell) (ys : List ℕ) (ws : List Event) (st : States) : Type 0 where
+pub record Going (p : Plan) (setting : Setting) (n c now s : ℕ) (e : Event) (k : ℕ) (q : Queue) (cells : List Cell) (ys : List ℕ) (ws : List Event)
+    (st : States) : Type 0 where
   pub queue : Queue
   pub after : List Cell
-  pub mid : Mid p n c now ys queue after ws st
+  pub mid : Mid p setting n c now ys queue after ws st
   pub from : From cells after
   pub rest : undoFrom p queue s e ≡ undoFrom p q s e
   pub undone : k + runs (queue .held) ≡ runs (q .held)
@@ -42,17 +44,18 @@ pub record Going (p : Plan) (n c now s : ℕ) (e : Event) (k : ℕ) (q : Queue) 
 -- of whatever the bytes held at first
 abbrev pub Goes : ℕ → ℕ → List ℕ → ℕ → Event → ℕ → List ℕ → Type 0
 Goes n c xs s e k ys =
-    (p : Plan) (now : ℕ) (q : Queue) (cells : List Cell) (ws : List Event) (st : States) → Mid p n c now xs q cells ws st
-    → Going p n c now s e k q cells ys ws st
+    (p : Plan) (setting : Setting) (now : ℕ) (q : Queue) (cells : List Cell) (ws : List Event) (st : States) → Mid p setting n c now xs q cells ws st
+    → Going p setting n c now s e k q cells ys ws st
 
 pub goes-at-first : (n c : ℕ) (xs : List ℕ) (s : ℕ) (e : Event) → Goes n c xs s e 0 xs
-goes-at-first n c xs s e p now q cells ws st M =
+goes-at-first n c xs s e p setting now q cells ws st M =
     record { queue = q; after = cells; mid = M; from = from-same cells; rest = refl; undone = omega arith }
 
 -- nothing of s is run from e on
 abbrev Ended : ℕ → ℕ → ℕ → Event → List ℕ → Type 0
 Ended n c s e ys =
-    (p : Plan) (now : ℕ) (q : Queue) (cells : List Cell) (ws : List Event) (st : States) → Mid p n c now ys q cells ws st → Clear s e (q .held)
+    (p : Plan) (setting : Setting) (now : ℕ) (q : Queue) (cells : List Cell) (ws : List Event) (st : States) → Mid p setting n c now ys q cells ws st
+    → Clear s e (q .held)
 
 -- the code's test, of the event in the slot that it has found
 pub test-at : (n x : ℕ) (ys : List ℕ) (e : Event) {i : ℕ} {u v : Bool} → i ≡ slotOf n x → u ≡ before (eventAt (slotRow n i) ys) e → u ≡ v
@@ -61,21 +64,22 @@ test-at n x ys e a j k = ap (λ (i : ℕ). before (eventAt (slotRow n i) ys) e) 
 
 module _ {n c s : ℕ} {ys : List ℕ} (l : s < n) where
   topmost : {x : ℕ} → x ≡ lastRun ys n c s
-      → {p : Plan} {now : ℕ} {q : Queue} {cells : List Cell} {ws : List Event} {st : States} → Mid p n c now ys q cells ws st → Top n s x cells
+      → {p : Plan} {setting : Setting} {now : ℕ} {q : Queue} {cells : List Cell} {ws : List Event} {st : States}
+      → Mid p setting n c now ys q cells ws st → Top n s x cells
   topmost {x} a {cells = cells} M = rw a (top (M .holds .stores .stands) l)
 
   -- a node of a cell is not 0
-  not-zero : {x : ℕ} {p : Plan} {now : ℕ} {q : Queue} {cells : List Cell} {ws : List Event} {st : States} {f : Event} {b : State}
-      → Mid p n c now ys q cells ws st → Has (cell x (ran f b)) cells → x ≢ 0
+  not-zero : {x : ℕ} {p : Plan} {setting : Setting} {now : ℕ} {q : Queue} {cells : List Cell} {ws : List Event} {st : States} {f : Event} {b : State}
+      → Mid p setting n c now ys q cells ws st → Has (cell x (ran f b)) cells → x ≢ 0
   not-zero M m t = omega (arith, placed (M .holds .stores .stands .stored) m .beyond, t)
 
-  event-at : {x : ℕ} {p : Plan} {now : ℕ} {q : Queue} {cells : List Cell} {ws : List Event} {st : States} {f : Event} {b : State}
-      → Mid p n c now ys q cells ws st → Has (cell x (ran f b)) cells → eventAt (slotRow n (slotOf n x)) ys ≡ f
+  event-at : {x : ℕ} {p : Plan} {setting : Setting} {now : ℕ} {q : Queue} {cells : List Cell} {ws : List Event} {st : States} {f : Event} {b : State}
+      → Mid p setting n c now ys q cells ws st → Has (cell x (ran f b)) cells → eventAt (slotRow n (slotOf n x)) ys ≡ f
   event-at {x} {f = f} {b = b} M m = event-of n ys x (ran f b) (placed (M .holds .stores .stands .stored) m .held)
 
   module _ (e : Event) where
     pub ended-empty : {x : ℕ} → x ≡ lastRun ys n c s → x ≡ 0 → Ended n c s e ys
-    ended-empty {x} a t p now q cells ws st M = go (topmost a M)
+    ended-empty {x} a t p setting now q cells ws st M = go (topmost a M)
       where
         go : Top n s x cells → Clear s e (q .held)
         go (empty _ z) =
@@ -84,7 +88,7 @@ module _ {n c s : ℕ} {ys : List ℕ} (l : s < n) where
         go (latest f b m u k) = absurd (not-zero M m t)
 
     pub ended-before : {x : ℕ} → x ≡ lastRun ys n c s → x ≢ 0 → before (eventAt (slotRow n (slotOf n x)) ys) e ≡ true → Ended n c s e ys
-    ended-before {x} a d t p now q cells ws st M = go (topmost a M)
+    ended-before {x} a d t p setting now q cells ws st M = go (topmost a M)
       where
         go : Top n s x cells → Clear s e (q .held)
         go (empty u _) = absurd (d u)
@@ -96,11 +100,12 @@ module _ {n c s : ℕ} {ys : List ℕ} (l : s < n) where
     -- one more event is undone
     module _ {x : ℕ} (a : x ≡ lastRun ys n c s) (d : x ≢ 0) (t : before (eventAt (slotRow n (slotOf n x)) ys) e ≡ false) where
       pub turn : {k : ℕ} {zs : List ℕ} → Undoes n c ys x k zs
-          → {p : Plan} {now : ℕ} {q : Queue} {cells : List Cell} {ws : List Event} {st : States} → Mid p n c now ys q cells ws st
-          → Going p n c now s e k q cells zs ws st × (1 ≤ k)
-      turn {k} {zs} U {p} {now} {q} {cells} {ws} {st} M = go (topmost a M)
+          → {p : Plan} {setting : Setting} {now : ℕ} {q : Queue} {cells : List Cell} {ws : List Event} {st : States}
+          → Mid p setting n c now ys q cells ws st
+          → Going p setting n c now s e k q cells zs ws st × (1 ≤ k)
+      turn {k} {zs} U {p} {setting} {now} {q} {cells} {ws} {st} M = go (topmost a M)
         where
-          go : Top n s x cells → Going p n c now s e k q cells zs ws st × (1 ≤ k)
+          go : Top n s x cells → Going p setting n c now s e k q cells zs ws st × (1 ≤ k)
           go (empty u _) = absurd (d u)
           go (latest f b m u v) = (
             record {
@@ -123,8 +128,8 @@ module _ {n c s : ℕ} {ys : List ℕ} (l : s < n) where
               late : NoneLater f (q .held)
               late = subst (λ h. NoneLater f h) (M .holds .stores .held) v
 
-              C : RollsTo p n c now k q zs r cells
-              C = U p now q cells ws st f b M m late
+              C : RollsTo p setting n c now k q zs r cells
+              C = U p setting now q cells ws st f b M m late
 
               L : Left p ws st q r
               L = undo-left (M .range) (M .ok) (M .neat) run late
@@ -138,8 +143,8 @@ module _ {n c s : ℕ} {ys : List ℕ} (l : s < n) where
                   ∙ ap (λ i. undoFrom p (undoEvent p q i f b (unmark f (q .held))) s e) (sym u)
 
       pub goes-on : {xs : List ℕ} {i k : ℕ} {zs : List ℕ} → Goes n c xs s e i ys → Undoes n c ys x k zs → Goes n c xs s e (i + k) zs
-      goes-on G U p now q cells ws st M =
-          let A = G p now q cells ws st M in
+      goes-on G U p setting now q cells ws st M =
+          let A = G p setting now q cells ws st M in
           let B = turn U (A .mid) .0 in
           record {
             queue = B .queue;
@@ -152,14 +157,14 @@ module _ {n c s : ℕ} {ys : List ℕ} (l : s < n) where
 
       -- so a turn that undoes nothing is on other bytes
       pub no-turn : {xs : List ℕ} {i k : ℕ} {zs us : List ℕ} → Goes n c xs s e i ys → Undoes n c ys x k zs → k ≡ 0 → UndoesFrom n c xs s e i us
-      no-turn G U z p now q cells ws st M = absurd (omega (arith, turn U (G p now q cells ws st M .mid) .1, z))
+      no-turn G U z p setting now q cells ws st M = absurd (omega (arith, turn U (G p setting now q cells ws st M .mid) .1, z))
 
 -- ---- the end
 
 pub undoes-from : {n c : ℕ} {xs : List ℕ} {s : ℕ} {e : Event} {k : ℕ} {ys : List ℕ} → Goes n c xs s e k ys → Ended n c s e ys → UndoesFrom n c xs s e k ys
-undoes-from {n} {c} {xs} {s} {e} {k} {ys} G E p now q cells ws st M =
-    let A = G p now q cells ws st M in
+undoes-from {n} {c} {xs} {s} {e} {k} {ys} G E p setting now q cells ws st M =
+    let A = G p setting now q cells ws st M in
     let t : A .queue ≡ undoFrom p q s e =
-    sym (undo-none p (A .queue) s e (clear-none s e (A .queue .held) (E p now (A .queue) (A .after) ws st (A .mid)))) ∙ A .rest in
-    subst (λ r. RollsTo p n c now k q ys r cells) t
+    sym (undo-none p (A .queue) s e (clear-none s e (A .queue .held) (E p setting now (A .queue) (A .after) ws st (A .mid)))) ∙ A .rest in
+    subst (λ r. RollsTo p setting n c now k q ys r cells) t
     (record { becomes = record { after = A .after; holds = A .mid .holds; from = A .from }; undone = A .undone })

@@ -13,7 +13,7 @@ returns-2 : tie.Need-returns-2
 returns-2 c =
     let l = c .before .before .before in
     let t = c .before .t .given in
-    some-earlier (l .before .before .args .time) (l .lowest .ensures) (t .0 .0) (t .0 .1 .0) (t .1)
+    some-earlier (l .before .before .args .time) (l .lowest .ensures) (t .0 .0) (t .0 .1 .0) (t .0 .1 .1 .0) (t .1)
 
 pub unrun-before-spec : {M : Type 1} → statement M
 unrun-before-spec = tie.close (tie.spec (λ c κs. search needs) (λ c. search needs) (λ c. search needs) returns returns-2)

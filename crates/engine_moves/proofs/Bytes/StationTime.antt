@@ -10,7 +10,8 @@ use lib.ListN.{length, take, drop, getD, set, length-set}
 use lib.Seq.{getD-set-same, getD-set-other}
 use Rattle.words.specs.Le.{loadAt}
 use Rattle.line.specs.declared.Event.{Event}
-use Rattle.rules.specs.Held.{Held, unrun, event, absent, at, timeOf, registered, leastUnrun, Found}
+use Rattle.rules.specs.Held.{Held, unrun, event, absent, at, timeOf, registered, asTime, leastUnrun, Found}
+use Rattle.rules.specs.Engine.{Setting}
 use Rattle.line.proofs.Order.{Which, this, other, which}
 use Rattle.rules.proofs.Undo.RunFirst.{first-in as held-in}
 use Rattle.rules.proofs.Replay.Registered.{registered-at, registered-first}
@@ -21,7 +22,6 @@ use Rattle.calendar.specs.declared.Answer.{Answer}
 use Rattle.calendar.specs.Rules.{withTime, registerChecks, registeredAt as entered, unregisterChecks, unregistered}
 use Rattle.calendar.specs.Bytes.{Sound, stateOf}
 use Rattle.calendar.specs.Promises.{Obeys}
-use Rattle.engine_events.specs.Shows.{asTime}
 use Rattle.engine_events.proofs.CalendarShown.{at-time, absent-time}
 use Rattle.engine_index.specs.Layout.{slotOf}
 use Rattle.engine_index.specs.Represents.{Cell, cell, ringOf, Stands, NoneIn}
@@ -87,17 +87,20 @@ module _ {n c : ℕ} {xs : List ℕ} {free : List ℕ} (s : ℕ) (l : s < n) whe
 
 -- ---- the calendar is told
 
-module _ {n c now s : ℕ} {xs : List ℕ} {h : List Held} (o : Option ℕ) (l : s < n) (U : Untold n c now s xs h) (r : asTime (registered h s) ≡ o) where
+module _ {setting : Setting} {n c now s : ℕ} {xs : List ℕ} {h : List Held} (o : Option ℕ) (l : s < n) (U : Untold setting n c now s xs h)
+    (r : asTime (registered h s) ≡ o) where
   each-told : (t : ℕ) → t < n → Which t s → getD (set (stateOf (part n c xs) .times) s o) t none ≡ asTime (registered h t)
   each-told t m (this e _) =
       subst (λ (u : ℕ). getD (set (stateOf (part n c xs) .times) s o) u none ≡ asTime (registered h u)) (sym e)
       (getD-set-same (stateOf (part n c xs) .times) s o none (omega (arith, U .size)) ∙ sym r)
   each-told t m (other d _) = getD-set-other (stateOf (part n c xs) .times) s t o none d ∙ U .others t m d
 
-  pub told : {zs : List ℕ} (ys : List ℕ) → part n c ys ≡ zs → Sound zs → stateOf zs ≡ withTime (stateOf (part n c xs)) s o → Calendared n c now ys h
+  pub told : {zs : List ℕ} (ys : List ℕ) → part n c ys ≡ zs → Sound zs → stateOf zs ≡ withTime (stateOf (part n c xs)) s o
+      → Calendared setting n c now ys h
   told ys P Z q =
       record {
         sound = rw P Z;
+        width = rw (P, q) (U .width);
         floor = rw (P, q) (U .floor);
         shows = rw (P, q) record {
           length-is = length-set (stateOf (part n c xs) .times) s o ∙ U .size;
@@ -117,7 +120,7 @@ module _ (n c s : ℕ) {start end x : ℕ} (xs zs : List ℕ) (b : s < n) (ls : 
   pub tell-none : {r : Answer} → x ≡ 0 → Obeys (λ q. unregisterChecks q s) (λ q. unregistered q s) (take (end - start) (drop start xs)) r zs → After n c s start end xs zs
   tell-none {r} e O = (
     put .1 .1,
-    λ p now q cells S U.
+    λ p setting now q cells S U.
         let O : Obeys (λ q. unregisterChecks q s) (λ q. unregistered q s) (part n c xs) r zs = rw (put .0) at O in
         let done = accepted-done r (O .answer (U .sound) ∙ unregister-accepted (stateOf (part n c xs)) s (omega (arith, U .size))) in
         let gone : registered (q .held) s ≡ absent = rw (S .held) at (none-waits s b cells (S .stands) (sym next ∙ e)) in
@@ -135,7 +138,7 @@ module _ (n c s : ℕ) {start end x : ℕ} (xs zs : List ℕ) (b : s < n) (ls : 
       → Obeys (λ q. registerChecks q s t) (λ q. entered q s t) (take (end - start) (drop start xs)) r zs → After n c s start end xs zs
   tell-time {r} {i} {t} d ei et O = (
     put .1 .1,
-    λ p now q cells S U.
+    λ p setting now q cells S U.
         let O : Obeys (λ q. registerChecks q s t) (λ q. entered q s t) (part n c xs) r zs = rw (put .0) at O in
         let time : t ≡ loadAt 8 (slotRow n (slotOf n (firstUnrun xs n c s))) xs = et ∙ rw (ei, next) in
         let is : registered (q .held) s ≡ at t = rw (S .held, ← time) at (first-waits s b cells (S .stands) (λ z. d (next ∙ z))) in

@@ -46,29 +46,28 @@ cleared n c width {start} {end} xs zs ys {r} some few slots long ls le size O F 
       let long-part : length (part n c xs) ≡ calendarBytes n = length-take-le (calendarBytes n) (drop (calendarAt n c) xs) (omega (arith, length-drop (calendarAt n c) xs)) in
       let done = accepted-done r (O .answer ∙ open-accepted n width (length (part n c xs)) a few w v (omega arith)) in
       let left : part n c ys ≡ zs = part-kept n c F (omega arith) ∙ put .1 .0 in
-      let state : stateOf zs ≡ calendar.openedCalendar n width = O .state done in (
-        record {
-          stores = record {
-            count = count;
-            some = b;
-            long = omega (arith, F .size, G .size);
-            configs = λ s l. row-kept (config-in n s) F (inr (omega arith)) ∙ row-kept (config-in n s) G (inr (omega arith)) ∙ configs s l;
-            states = λ s l. row-kept (state-in n s) F (inr (omega arith)) ∙ row-kept (state-in n s) G (inr (omega arith)) ∙ states s l;
-            free = places n c;
-            stands = K few slots (omega (arith, G .size));
-            places = omega (arith, length-places n c);
-            held = refl;
-            times = λ y m. absurd (List·Memᴰ·not-nil m);
-            kids = λ x e b m. absurd (List·Memᴰ·not-nil m);
-          };
-          calendar = record {
-            sound = rw left (O .sound done);
-            floor = rw (left, state);
-            shows = rw (left, state) (opened-shows n);
-          };
-        },
-        rw (left, state),
-      ),
+      let state : stateOf zs ≡ calendar.openedCalendar n width = O .state done in
+      record {
+        stores = record {
+          count = count;
+          some = b;
+          long = omega (arith, F .size, G .size);
+          configs = λ s l. row-kept (config-in n s) F (inr (omega arith)) ∙ row-kept (config-in n s) G (inr (omega arith)) ∙ configs s l;
+          states = λ s l. row-kept (state-in n s) F (inr (omega arith)) ∙ row-kept (state-in n s) G (inr (omega arith)) ∙ states s l;
+          free = places n c;
+          stands = K few slots (omega (arith, G .size));
+          places = omega (arith, length-places n c);
+          held = refl;
+          times = λ y m. absurd (List·Memᴰ·not-nil m);
+          kids = λ x e b m. absurd (List·Memᴰ·not-nil m);
+        };
+        calendar = record {
+          sound = rw left (O .sound done);
+          width = rw (left, state);
+          floor = rw (left, state);
+          shows = rw (left, state) (opened-shows n);
+        };
+      },
 )
   where
     put : (take (end - start) (drop start xs) ≡ part n c xs) × Put n c xs zs (putMid start (end - start) xs zs)

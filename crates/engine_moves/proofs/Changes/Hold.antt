@@ -8,6 +8,7 @@ use Rattle.refusal.specs.Tests.{horizon}
 use Rattle.line.specs.declared.Event.{Event}
 use Rattle.line.specs.Station.{Plan}
 use Rattle.rules.specs.Held.{unrun, Queue, place}
+use Rattle.rules.specs.Engine.{Setting}
 use Rattle.rules.proofs.Replay.OtherStations.{place-elsewhere}
 use Rattle.engine_events.specs.Shows.{Inside}
 use Rattle.rings.specs.Table.{Frame}
@@ -30,10 +31,11 @@ use Rattle.engine_moves.proofs.Changes.IndexChanged.{Times, times-from,
 module _ (n c : ℕ) (e : Event) (r : ℕ) {xs ys zs : List ℕ} (F : Frame (slotRow n 0) (indexBytes n c) xs ys) (P : Puts n c xs e r ys)
     (K : Spares n c r xs ys) (T : Tells n c (e .target) ys zs) where
   -- the cells are in two parts, and a slot is free
-  takes-at : (p : Plan) (now : ℕ) (q : Queue) (A B : List Cell) (x : ℕ) (fs : List ℕ) → (H : Holds p n c now xs q (A ++ B)) → H .stores .free ≡ x ∷ fs
+  takes-at : (p : Plan) (setting : Setting) (now : ℕ) (q : Queue) (A B : List Cell) (x : ℕ) (fs : List ℕ)
+      → (H : Holds p setting n c now xs q (A ++ B)) → H .stores .free ≡ x ∷ fs
       → EventFits e → e .target < n → now ≤ e .time → e .time ≤ horizon → AllBefore A e → AllAfter e B
-      → HoldsAmong p n c now zs (record { states = q .states; held = place e (q .held) }) (cell r (unrun e) ∷ (A ++ B))
-  takes-at p now q A B x fs H free fits l low high a b =
+      → HoldsAmong p setting n c now zs (record { states = q .states; held = place e (q .held) }) (cell r (unrun e) ∷ (A ++ B))
+  takes-at p setting now q A B x fs H free fits l low high a b =
       let S = H .stores in
       let y : Cell = cell r (unrun e) in
       let w = P A B x fs (subst (λ f. Stands n c xs (A ++ B) f) free (S .stands)) fits l a b in
@@ -47,23 +49,24 @@ module _ (n c : ℕ) (e : Event) (r : ℕ) {xs ys zs : List ℕ} (F : Frame (slo
       let G = index-stores (A ++ y ∷ B) fs (place e (q .held)) S F D size held (subst (Times now) held times) kids in
       let U =
       untold (place e (q .held)) (H .calendar) (part-kept n c F (omega arith)) (subst (Inside n) held (stands-inside D)) (e .target) (place-elsewhere e (q .held)) in
-      record { after = A ++ y ∷ B; holds = T p now _ (A ++ y ∷ B) G U; from = from-join A y B }
+      record { after = A ++ y ∷ B; holds = T p setting now _ (A ++ y ∷ B) G U; from = from-join A y B }
     where
       joined : Times now (heldOf (A ++ B)) → Times now (unrun e ∷ heldOf (A ++ B))
       joined t z (List·Memᴰ·head i) = rw i (low, high)
       joined t z (List·Memᴰ·tail m) = t z m
 
-  takes-parted : (p : Plan) (now : ℕ) (q : Queue) (A B : List Cell) → Holds p n c now xs q (A ++ B) → length (A ++ B) < c
+  takes-parted : (p : Plan) (setting : Setting) (now : ℕ) (q : Queue) (A B : List Cell) → Holds p setting n c now xs q (A ++ B) → length (A ++ B) < c
       → EventFits e → e .target < n → now ≤ e .time → e .time ≤ horizon → AllBefore A e → AllAfter e B
-      → HoldsAmong p n c now zs (record { states = q .states; held = place e (q .held) }) (cell r (unrun e) ∷ (A ++ B))
-  takes-parted p now q A B H room fits l low high a b = go (H .stores .free) refl
+      → HoldsAmong p setting n c now zs (record { states = q .states; held = place e (q .held) }) (cell r (unrun e) ∷ (A ++ B))
+  takes-parted p setting now q A B H room fits l low high a b = go (H .stores .free) refl
     where
-      go : (f : List ℕ) → H .stores .free ≡ f → HoldsAmong p n c now zs (record { states = q .states; held = place e (q .held) }) (cell r (unrun e) ∷ (A ++ B))
+      go : (f : List ℕ) → H .stores .free ≡ f
+          → HoldsAmong p setting n c now zs (record { states = q .states; held = place e (q .held) }) (cell r (unrun e) ∷ (A ++ B))
       go [] i = absurd (omega (arith, H .stores .places, ap length i))
-      go (x ∷ fs) i = takes-at p now q A B x fs H i fits l low high a b
+      go (x ∷ fs) i = takes-at p setting now q A B x fs H i fits l low high a b
 
   pub takes : HoldsEvent n c xs e r zs
-  takes p now q cells H room fits l low high new =
+  takes p setting now q cells H room fits l low high new =
       let R = order-split e cells (H .stores .stands .sorted) (subst (New e) (sym (H .stores .held)) new) in
-      subst (λ w. Holds p n c now xs q w → length w < c → HoldsAmong p n c now zs (record { states = q .states; held = place e (q .held) }) (cell r (unrun e) ∷ w))
-      (sym (R .whole)) (λ J m. takes-parted p now q (R .front) (R .back) J m fits l low high (R .earlier) (R .later)) H room
+      subst (λ w. Holds p setting n c now xs q w → length w < c → HoldsAmong p setting n c now zs (record { states = q .states; held = place e (q .held) }) (cell r (unrun e) ∷ w))
+      (sym (R .whole)) (λ J m. takes-parted p setting now q (R .front) (R .back) J m fits l low high (R .earlier) (R .later)) H room

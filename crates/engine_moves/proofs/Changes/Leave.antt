@@ -12,6 +12,7 @@ use Rattle.line.specs.Station.{Plan, runEvent}
 use Rattle.line.specs.Order.{Lt}
 use Rattle.line.proofs.Order.{asym, clash}
 use Rattle.rules.specs.Held.{Held, unrun, ran, event, In, Queue, same, delete, registered}
+use Rattle.rules.specs.Engine.{Setting}
 use Rattle.line.proofs.Members.{all-in}
 use Rattle.rules.proofs.Replay.Delete.{same-self}
 use Rattle.rules.proofs.Replay.Replay.{sends-later}
@@ -58,16 +59,17 @@ module _ (n c x : ℕ) {xs ys : List ℕ} (F : Frame (slotRow n 0) (indexBytes n
           go (inr w) = (h, w, refl)
 
   pub leaves : (e : Event) {zs : List ℕ} → Drops n c xs x ys → Tells n c (e .target) ys zs
-      → (p : Plan) (now : ℕ) (q : Queue) (cells : List Cell) → Holds p n c now xs q cells → Has (cell x (unrun e)) cells → Unsent p e (q .held)
-      → HoldsAmong p n c now zs (record { states = q .states; held = delete e (q .held) }) cells
-  leaves e {zs} P T p now q cells H m w =
-      at-split (λ l. Holds p n c now xs q l → HoldsAmong p n c now zs (record { states = q .states; held = delete e (q .held) }) l) (cell x (unrun e)) cells m at H
+      → (p : Plan) (setting : Setting) (now : ℕ) (q : Queue) (cells : List Cell) → Holds p setting n c now xs q cells → Has (cell x (unrun e)) cells
+      → Unsent p e (q .held)
+      → HoldsAmong p setting n c now zs (record { states = q .states; held = delete e (q .held) }) cells
+  leaves e {zs} P T p setting now q cells H m w =
+      at-split (λ l. Holds p setting n c now xs q l → HoldsAmong p setting n c now zs (record { states = q .states; held = delete e (q .held) }) l) (cell x (unrun e)) cells m at H
     where
       y : Cell
       y = cell x (unrun e)
 
-      at : (A B : List Cell) → Holds p n c now xs q (A ++ y ∷ B)
-          → HoldsAmong p n c now zs (record { states = q .states; held = delete e (q .held) }) (A ++ y ∷ B)
+      at : (A B : List Cell) → Holds p setting n c now xs q (A ++ y ∷ B)
+          → HoldsAmong p setting n c now zs (record { states = q .states; held = delete e (q .held) }) (A ++ y ∷ B)
       at A B K =
           let S = K .stores in
           let D = P A B e (S .free) (S .stands) in
@@ -77,7 +79,7 @@ module _ (n c x : ℕ) {xs ys : List ℕ} (F : Frame (slotRow n 0) (indexBytes n
           let U =
           untold (delete e (q .held)) (K .calendar) (part-kept n c F (omega arith)) (subst (Inside n) held (stands-inside D)) (e .target)
           (delete-elsewhere e (q .held)) in
-          record { after = A ++ B; holds = T p now _ (A ++ B) G U; from = from-leave A y B }
+          record { after = A ++ B; holds = T p setting now _ (A ++ B) G U; from = from-leave A y B }
         where
           away : (f : Event) (g : State) → In (ran f g) (heldOf (A ++ B)) → (z : Event) → List·Memᴰ z (runEvent p g f .sends) → z ≡ e → ⊥
           away f g i z s k =
@@ -88,7 +90,7 @@ module _ (n c x : ℕ) {xs ys : List ℕ} (F : Frame (slotRow n 0) (indexBytes n
               true≢false (sym (same-self e) ∙ t)
 
   pub releases : IndexReleases n c xs x ys → ReleasesEvent n c xs x ys
-  releases P p now q cells e b I H =
+  releases P p setting now q cells e b I H =
       let S = H .stores in
       let y : Cell = cell x (ran e b) in
       let D = P [] cells e b (S .free) (S .stands) in

@@ -10,6 +10,7 @@ use Rattle.line.specs.declared.Event.{Event}
 use Rattle.line.specs.declared.State.{State}
 use Rattle.line.specs.Station.{Plan, update, runEvent}
 use Rattle.rules.specs.Held.{Held, unrun, ran, Queue, mark, some, leastUnrun}
+use Rattle.rules.specs.Engine.{Setting}
 use Rattle.rules.specs.Undo.{NoneLater}
 use Rattle.rules.proofs.Replay.OtherStations.{mark-elsewhere}
 use Rattle.engine_events.specs.Shows.{Inside}
@@ -44,11 +45,12 @@ module _ (n c x : ℕ) (e : Event) (v after : State) {xs ys zs : List ℕ} (F : 
   abbrev After : Queue → Queue
   After q = record { states = update (q .states) (e .target) after; held = mark (e .target) v (q .held) }
 
-  marked-at : (p : Plan) (now : ℕ) (q : Queue) (A B : List Cell) → Holds p n c now xs q (A ++ cell x (unrun e) ∷ B) → StateFits v → StateFits after
+  marked-at : (p : Plan) (setting : Setting) (now : ℕ) (q : Queue) (A B : List Cell) → Holds p setting n c now xs q (A ++ cell x (unrun e) ∷ B)
+      → StateFits v → StateFits after
       → leastUnrun (e .target) (q .held) ≡ some e → NoneLater e (q .held)
       → Nodes (A ++ cell x (unrun e) ∷ B) (sendsAt n x xs) (runEvent p v e .sends)
-      → HoldsAmong p n c now zs (After q) (A ++ cell x (unrun e) ∷ B)
-  marked-at p now q A B H fits room first later sends =
+      → HoldsAmong p setting n c now zs (After q) (A ++ cell x (unrun e) ∷ B)
+  marked-at p setting now q A B H fits room first later sends =
       let S = H .stores in
       let o : Cell = cell x (unrun e) in
       let u : Cell = cell x (ran e v) in
@@ -69,7 +71,7 @@ module _ (n c x : ℕ) (e : Event) (v after : State) {xs ys zs : List ℕ} (F : 
       (mark-elsewhere (e .target) v (q .held)) in
       record {
         after = A ++ u ∷ B;
-        holds = T p now _ (A ++ u ∷ B) (state-stores (e .target) after l room G) U;
+        holds = T p setting now _ (A ++ u ∷ B) (state-stores (e .target) after l room G) U;
         from = from-swap A x (unrun e) (ran e v) B refl;
       }
     where
@@ -104,15 +106,16 @@ module _ (n c x : ℕ) (e : Event) (v after : State) (first second : ℕ) (xs : 
       → Marks n c (notedIn n x first second xs) x v ys
       → Tells n c (e .target) (putState (stationRow n (e .target) + 32) after ys) zs
       → first < 65536 → second < 65536
-      → (p : Plan) (now : ℕ) (q : Queue) (cells : List Cell) → Holds p n c now xs q cells → Has (cell x (unrun e)) cells → StateFits v → StateFits after
+      → (p : Plan) (setting : Setting) (now : ℕ) (q : Queue) (cells : List Cell) → Holds p setting n c now xs q cells → Has (cell x (unrun e)) cells
+      → StateFits v → StateFits after
       → leastUnrun (e .target) (q .held) ≡ some e → NoneLater e (q .held)
       → Nodes cells (nonzero first ++ nonzero second) (runEvent p v e .sends)
-      → HoldsAmong p n c now zs (record { states = update (q .states) (e .target) after; held = mark (e .target) v (q .held) }) cells
-  runs F N P T h k p now q cells H m fits room least later sends =
+      → HoldsAmong p setting n c now zs (record { states = update (q .states) (e .target) after; held = mark (e .target) v (q .held) }) cells
+  runs F N P T h k p setting now q cells H m fits room least later sends =
       at-split
-      (λ l. Holds p n c now (notedIn n x first second xs) q l → Nodes l (sendsAt n x (notedIn n x first second xs)) (runEvent p v e .sends)
-      → HoldsAmong p n c now zs (record { states = update (q .states) (e .target) after; held = mark (e .target) v (q .held) }) l)
-      (cell x (unrun e)) cells m (λ A B K w. marked-at n c x e v after F N P T p now q A B K fits room least later w) J
+      (λ l. Holds p setting n c now (notedIn n x first second xs) q l → Nodes l (sendsAt n x (notedIn n x first second xs)) (runEvent p v e .sends)
+      → HoldsAmong p setting n c now zs (record { states = update (q .states) (e .target) after; held = mark (e .target) v (q .held) }) l)
+      (cell x (unrun e)) cells m (λ A B K w. marked-at n c x e v after F N P T p setting now q A B K fits room least later w) J
       (rw (sends-noted n x first second xs (omega (arith, H .stores .stands .room, slot)) h k) sends)
     where
       first-stores : Stores p n c now (storeAt 2 (slotRow n (slotOf n x) + 56 + 2 * 0) first xs) q cells
@@ -126,8 +129,8 @@ module _ (n c x : ℕ) (e : Event) (v after : State) (first second : ℕ) (xs : 
           part-kept n c (store-frame 2 (slotRow n (slotOf n x) + 56 + 2 * 1) second (storeAt 2 (slotRow n (slotOf n x) + 56 + 2 * 0) first xs)) (omega (arith, slot))
           ∙ part-kept n c (store-frame 2 (slotRow n (slotOf n x) + 56 + 2 * 0) first xs) (omega (arith, slot))
 
-      told : Calendared n c now (notedIn n x first second xs) (q .held)
+      told : Calendared setting n c now (notedIn n x first second xs) (q .held)
       told = still-told (q .held) (H .calendar) part-is (H .calendar .shows .inside) (λ t. refl)
 
-      J : Holds p n c now (notedIn n x first second xs) q cells
+      J : Holds p setting n c now (notedIn n x first second xs) q cells
       J = record { stores = number-stores first-stores x 1 second e (omega arith) m; calendar = told }

@@ -8,6 +8,7 @@ use Rattle.line.specs.declared.Event.{Event}
 use Rattle.line.specs.declared.State.{State}
 use Rattle.line.specs.Station.{Plan, update}
 use Rattle.rules.specs.Held.{unrun, ran, Queue, unmark}
+use Rattle.rules.specs.Engine.{Setting}
 use Rattle.rules.specs.Undo.{NoneLater}
 use Rattle.rules.proofs.Replay.OtherStations.{unmark-elsewhere}
 use Rattle.engine_events.specs.Shows.{Inside}
@@ -37,9 +38,10 @@ module _ (n c x : ℕ) (e : Event) (b : State) {xs ys zs : List ℕ} (F : Frame 
   abbrev After : Queue → Queue
   After q = record { states = update (q .states) (e .target) b; held = unmark e (q .held) }
 
-  unrun-at : (p : Plan) (now : ℕ) (q : Queue) (A B : List Cell) → Holds p n c now xs q (A ++ cell x (ran e b) ∷ B) → StateFits b
-      → NoneLater e (q .held) → NoneWaits e (q .held) → HoldsAmong p n c now zs (After q) (A ++ cell x (ran e b) ∷ B)
-  unrun-at p now q A B H fits later waits =
+  unrun-at : (p : Plan) (setting : Setting) (now : ℕ) (q : Queue) (A B : List Cell) → Holds p setting n c now xs q (A ++ cell x (ran e b) ∷ B)
+      → StateFits b
+      → NoneLater e (q .held) → NoneWaits e (q .held) → HoldsAmong p setting n c now zs (After q) (A ++ cell x (ran e b) ∷ B)
+  unrun-at p setting now q A B H fits later waits =
       let S = H .stores in
       let o : Cell = cell x (ran e b) in
       let u : Cell = cell x (unrun e) in
@@ -63,13 +65,14 @@ module _ (n c x : ℕ) (e : Event) (b : State) {xs ys zs : List ℕ} (F : Frame 
       untold (unmark e (q .held)) (H .calendar) part-is (subst (Inside n) held (stands-inside D)) (e .target) (unmark-elsewhere e (q .held)) in
       record {
         after = A ++ u ∷ B;
-        holds = T p now _ (A ++ u ∷ B) (state-stores (e .target) b l fits G) U;
+        holds = T p setting now _ (A ++ u ∷ B) (state-stores (e .target) b l fits G) U;
         from = from-swap A x (ran e b) (unrun e) B refl;
       }
 
   -- the state from before it stands in bytes, so that it fits
-  pub unruns : (p : Plan) (now : ℕ) (q : Queue) (cells : List Cell) → Holds p n c now xs q cells → Has (cell x (ran e b)) cells → StateFits b
-      → NoneLater e (q .held) → NoneWaits e (q .held) → HoldsAmong p n c now zs (After q) cells
-  unruns p now q cells H m fits later waits =
-      at-split (λ l. Holds p n c now xs q l → HoldsAmong p n c now zs (After q) l) (cell x (ran e b)) cells m
-      (λ A B K. unrun-at p now q A B K fits later waits) H
+  pub unruns : (p : Plan) (setting : Setting) (now : ℕ) (q : Queue) (cells : List Cell) → Holds p setting n c now xs q cells
+      → Has (cell x (ran e b)) cells → StateFits b
+      → NoneLater e (q .held) → NoneWaits e (q .held) → HoldsAmong p setting n c now zs (After q) cells
+  unruns p setting now q cells H m fits later waits =
+      at-split (λ l. Holds p setting n c now xs q l → HoldsAmong p setting n c now zs (After q) l) (cell x (ran e b)) cells m
+      (λ A B K. unrun-at p setting now q A B K fits later waits) H

@@ -39,14 +39,14 @@ module _ (n c : ℕ) (e : Event) (xs : List ℕ) where
 
   pub hold-unfit : {v : Bool} → v ≡ fitsIn n c (length xs) → v ≡ false → HoldEnd n c e xs 0 xs
   unfolding heldNode
-  hold-unfit k z = (after-header-same xs, ((λ p now q cells H _ _ _ _ _ _. absurd (fits-gone k z (H .stores))), none))
+  hold-unfit k z = (after-header-same xs, ((λ p setting now q cells H _ _ _ _ _ _. absurd (fits-gone k z (H .stores))), none))
     where
       none : 0 ≡ heldNode xs n c e
       none = let unfit : fitsIn n c (length xs) ≡ false = sym k ∙ z in rw unfit
 
   pub hold-slotless : c ≤ 0 → HoldEnd n c e xs 0 xs
   unfolding heldNode spareNode
-  hold-slotless l = (after-header-same xs, ((λ p now q cells H room _ _ _ _ _. absurd (omega (arith, H .stores .some))), none))
+  hold-slotless l = (after-header-same xs, ((λ p setting now q cells H room _ _ _ _ _. absurd (omega (arith, H .stores .some))), none))
     where
       either : (v : Bool) → _≡_ {A = ℕ} 0 (cond v 0 0)
       either true = refl
@@ -57,7 +57,7 @@ module _ (n c : ℕ) (e : Event) (xs : List ℕ) where
 
   pub hold-outside : {v : Bool} → v ≡ fitsIn n c (length xs) → v ≡ true → n ≤ e .target → HoldEnd n c e xs 0 xs
   unfolding heldNode
-  hold-outside f t l = (after-header-same xs, ((λ p now q cells H _ _ k _ _ _. absurd (omega arith)), none))
+  hold-outside f t l = (after-header-same xs, ((λ p setting now q cells H _ _ k _ _ _. absurd (omega arith)), none))
     where
       none : 0 ≡ heldNode xs n c e
       none = let fit : fitsIn n c (length xs) ≡ true = sym f ∙ t in rw (fit, le-ltb (e .target) n l)

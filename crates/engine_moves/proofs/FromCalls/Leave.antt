@@ -52,9 +52,9 @@ module _ (n c x : ℕ) where
       left z = omega (arith, zero-is, z)
 
       gone : DiscardsEvent n c xs x zs
-      gone p now r cells f H m un =
+      gone p setting now r cells f H m un =
           let z : e ≡ f = event-there ∙ event-is n c x xs (unrun f) (H .stores) m in
-          leaves n c x (I .0) (I .1 .1 .0) f (I .1 .0) (subst (λ g. Tells n c (g .target) ys zs) z (T .1)) p now r cells H m un
+          leaves n c x (I .0) (I .1 .1 .0) f (I .1 .0) (subst (λ g. Tells n c (g .target) ys zs) z (T .1)) p setting now r cells H m un
 
   pub discard-none : (xs : List ℕ) → Nowhere n c xs x → AfterHeader xs xs × ((runsBelow n xs c ≤ runsBelow n xs c) × DiscardsEvent n c xs x xs)
-  discard-none xs R = (after-header-same xs, (omega arith, (λ p now q cells e H m _. absurd (R p now q cells (unrun e) (H .stores) m))))
+  discard-none xs R = (after-header-same xs, (omega arith, (λ p setting now q cells e H m _. absurd (R p now q cells (unrun e) (H .stores) m))))

@@ -10,6 +10,7 @@ use Rattle.line.specs.declared.Event.{Event}
 use Rattle.line.specs.declared.State.{State}
 use Rattle.line.specs.Station.{Plan, update, runEvent}
 use Rattle.rules.specs.Held.{unrun, Queue, some, leastUnrun, mark}
+use Rattle.rules.specs.Engine.{Setting}
 use Rattle.rules.specs.Undo.{NoneLater}
 use Rattle.rings.specs.Table.{Frame}
 use Rattle.rings.proofs.Frames.{store-frame}
@@ -75,21 +76,21 @@ module _ (n c x : ℕ) (after : State) (first second : ℕ) where
       told : Tells n c (e .target) (putState (stationRow n (e .target) + 32) after ys) zs
       told = rw ed at (T .1)
 
-      On : Plan → ℕ → Queue → List Cell → Event → State → Type 0
-      On p now q cells f a =
+      On : Plan → Setting → ℕ → Queue → List Cell → Event → State → Type 0
+      On p setting now q cells f a =
           Has (cell x (unrun f)) cells → leastUnrun (f .target) (q .held) ≡ some f → NoneLater f (q .held)
           → Nodes cells (nonzero first ++ nonzero second) (runEvent p a f .sends)
-          → HoldsAmong p n c now zs (record { states = update (q .states) (f .target) after; held = mark (f .target) a (q .held) }) cells
+          → HoldsAmong p setting n c now zs (record { states = update (q .states) (f .target) after; held = mark (f .target) a (q .held) }) cells
 
       ran-on : RunsEvent n c xs x after first second zs
-      ran-on p now q cells f H m least later _ room nodes =
+      ran-on p setting now q cells f H m least later _ room nodes =
           let y : e ≡ f = event-there ∙ event-is n c x xs (unrun f) (H .stores) m in
           let z : v ≡ q .states (e .target) = ev ∙ H .stores .states (e .target) l in
-          subst (λ g. On p now q cells g (q .states (g .target))) y
-          (subst (λ a. On p now q cells e a) z
-          (λ h i j k. runs n c x e v after first second xs (rw noted at (I .0)) (rw noted at (I .1 .1)) (rw noted at (I .1 .0)) told small small2 p now q cells H h
+          subst (λ g. On p setting now q cells g (q .states (g .target))) y
+          (subst (λ a. On p setting now q cells e a) z
+          (λ h i j k. runs n c x e v after first second xs (rw noted at (I .0)) (rw noted at (I .1 .1)) (rw noted at (I .1 .0)) told small small2 p setting now q cells H h
           fits room i j k))
           m least later nodes
 
   pub run-none : (xs : List ℕ) → Nowhere n c xs x → AfterHeader xs xs × RunsEvent n c xs x after first second xs
-  run-none xs R = (after-header-same xs, (λ p now q cells e H m _ _ _ _ _. absurd (R p now q cells (unrun e) (H .stores) m)))
+  run-none xs R = (after-header-same xs, (λ p setting now q cells e H m _ _ _ _ _. absurd (R p now q cells (unrun e) (H .stores) m)))

@@ -12,6 +12,7 @@ use Rattle.line.specs.declared.Event.{Event}
 use Rattle.line.specs.declared.State.{State}
 use Rattle.line.specs.Station.{Plan, update}
 use Rattle.rules.specs.Held.{ran, Queue, unmark}
+use Rattle.rules.specs.Engine.{Setting}
 use Rattle.rules.specs.Undo.{NoneLater}
 use Rattle.engine_rows.specs.Layout.{stationRow, slotRow}
 use Rattle.entry.specs.Entry.{eventAt}
@@ -107,17 +108,17 @@ module _ (n c x : ℕ) where
       told : Tells n c (e .target) (putState (stationRow n (e .target) + 32) b ys) zs
       told = rw ea at (T .1)
 
-      Back : Plan → ℕ → Queue → List Cell → Event → State → Type 0
-      Back p now q cells f a = Has (cell x (ran f a)) cells → NoneLater f (q .held) → NoneWaits f (q .held)
-          → HoldsAmong p n c now zs (record { states = update (q .states) (f .target) a; held = unmark f (q .held) }) cells
+      Back : Plan → Setting → ℕ → Queue → List Cell → Event → State → Type 0
+      Back p setting now q cells f a = Has (cell x (ran f a)) cells → NoneLater f (q .held) → NoneWaits f (q .held)
+          → HoldsAmong p setting n c now zs (record { states = update (q .states) (f .target) a; held = unmark f (q .held) }) cells
 
       back : UnrunsEvent n c xs x true zs
-      back p now q cells f a H m later waits =
+      back p setting now q cells f a H m later waits =
           let y : e ≡ f = event-there ∙ event-is n c x xs (ran f a) (H .stores) m in
           let z : b ≡ a = state-there ∙ member (H .stores .stands) (cell x (ran f a)) m .0 .2 in (
             refl,
-            subst (λ g. Back p now q cells g a) y
-                (subst (λ g. Back p now q cells e g) z (λ h o u. unruns n c x e b (I .0) (I .1 .1 .0) (I .1 .0) told p now q cells H h fits o u)) m later waits,
+            subst (λ g. Back p setting now q cells g a) y
+                (subst (λ g. Back p setting now q cells e g) z (λ h o u. unruns n c x e b (I .0) (I .1 .1 .0) (I .1 .0) told p setting now q cells H h fits o u)) m later waits,
           )
 
   module _ (xs : List ℕ) where
@@ -128,7 +129,7 @@ module _ (n c x : ℕ) where
       after-header-same xs,
       (
         (λ _. refl),
-        ((λ z. absurd (true≢false (sym z))), ((λ p now q cells e b H m _ _. absurd (R p now q cells e b (H .stores) m)), sym z)),
+        ((λ z. absurd (true≢false (sym z))), ((λ p setting now q cells e b H m _ _. absurd (R p now q cells e b (H .stores) m)), sym z)),
       ),
     )
 
