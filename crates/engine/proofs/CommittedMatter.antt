@@ -4,4 +4,4 @@ use Rattle.engine_promises.specs.Represents.{lineOf}
 use Rattle.engine.specs.CommittedMatter.{CommittedMatter}
 
 pub committed-matter : CommittedMatter
-committed-matter plan capacity ms ys w = log-suits (lineOf plan) (w .stands .range) capacity (w .calls) (w .demand .machine) (w .demand .comes)
+committed-matter plan setting ms ys w = log-suits (lineOf plan) (w .stands .range) setting (w .calls) (w .demand .machine) (w .demand .comes)

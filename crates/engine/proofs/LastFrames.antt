@@ -5,16 +5,17 @@ use Rattle.line.specs.LastFrame.{LastFrame}
 use Rattle.line.specs.Station.{initial}
 use Rattle.line.proofs.LastFrame.{run-hears, first-says, run-says}
 use Rattle.rules.specs.Machine.{start}
+use Rattle.rules.specs.Engine.{Setting}
 use Rattle.rules.specs.Demand.{Made, lastCommit}
 use Rattle.rules.proofs.Machine.States.{states-all}
 use Rattle.engine_promises.specs.Represents.{lineOf}
 use Rattle.engine.specs.Session.{Whole}
 use Rattle.engine.specs.LastFrames.{LastFrames}
 
-each-record : (plan : List ℕ) (capacity : ℕ) (ms : List Made) (ys : List ℕ) (w : Whole plan capacity ms ys) (s : ℕ)
+each-record : (plan : List ℕ) (setting : Setting) (ms : List Made) (ys : List ℕ) (w : Whole plan setting ms ys) (s : ℕ)
     → LastFrame (lastCommit 0 ms) (w .demand .machine .states s)
 unfolding start initial
-each-record plan capacity ms ys w =
+each-record plan setting ms ys w =
     let c = lastCommit 0 ms in
     states-all (lineOf plan) (LastFrame c) (run-says c (lineOf plan)) (w .demand .comes) (λ s. first-says c (lineOf plan .config s))
 

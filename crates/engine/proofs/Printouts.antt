@@ -1,17 +1,25 @@
--- Both lists are lists of calls by the rules, whose answers are a matter of the plan, the capacity and the calls.
+-- Both lists are lists of calls by the rules, whose answers are a matter of the plan, what the opening chose and the calls.
 use mathlib.Core.Path.{refl}
 use mathlib.Core.List.{List}
 use Prim.Native.Nat.{ℕ}
+use Rattle.rules.specs.Engine.{Setting}
 use Rattle.rules.specs.Demand.{Made}
 use Rattle.rules.proofs.Calls.Alike.{alike}
+use Rattle.rules.proofs.Calls.ButCounts.{alike-but-counts}
 use Rattle.engine_answers.specs.declared.OpenAnswer.the-variants.{Done}
 use Rattle.engine_promises.specs.Represents.{lineOf}
 use Rattle.engine.specs.Session.{Whole}
 use Rattle.engine.specs.Printouts.{Printout, Printouts}
 use Rattle.engine.proofs.Session.{whole}
 
-listed : {plan : List ℕ} {capacity : ℕ} {ms : List Made} (o : Printout plan capacity ms) → Whole plan capacity ms (o .left)
-listed {plan} {capacity} {ms} o = whole plan (o .width) capacity (o .before) Done (o .opened) (o .opening) .whole refl (o .left) ms (o .calls)
+listed : {plan : List ℕ} {setting : Setting} {ms : List Made} (o : Printout plan setting ms) → Whole plan setting ms (o .left)
+listed {plan} {setting} {ms} o =
+    whole plan (setting .width) (setting .capacity) (o .before) Done (o .opened) (o .opening) .whole refl (o .left) ms (o .calls)
 
 pub same-printouts : Printouts
-same-printouts plan capacity ms ns o k = let w = listed o in alike (lineOf plan) (w .stands .range) capacity (w .calls) (listed k .calls)
+same-printouts = record {
+  same = λ plan setting ms ns o k. let w = listed o in alike (lineOf plan) (w .stands .range) setting (w .calls) (listed k .calls);
+  other-widths = λ plan v w capacity ms ns o k.
+      let l = listed o in
+      alike-but-counts (lineOf plan) (l .stands .range) v w capacity (l .calls) (listed k .calls);
+}

@@ -8,7 +8,7 @@ use Rattle.refusal.proofs.CheckingOrder.{not-both}
 use Rattle.line.specs.Station.{Plan}
 use Rattle.rules.specs.Machine.{Machine}
 use Rattle.rules.specs.Held.{recordOf}
-use Rattle.rules.specs.Engine.{Engine, opened, Record, Answer, Recorded}
+use Rattle.rules.specs.Engine.{chosen, Engine, opened, Record, Answer, Recorded}
 use Rattle.rules.specs.Checks.{checks}
 use Rattle.rules.specs.Calls.{Answers, refuse, recorded}
 use Rattle.rules.specs.Demand as D
@@ -57,11 +57,12 @@ whole plan width capacity before r xs o = record {
   opening = o .number;
   refusal = o .refusal;
   whole = λ d ys ms c.
-      let h : Represents (lineOf plan) (opened (lineOf plan) capacity) xs = o .opens d in
+      let setting = chosen width capacity in
+      let h : Represents (lineOf plan) (opened (lineOf plan) (chosen width capacity)) xs = o .opens d in
       let t = chain-calls h c in
-      let q = W.demand (lineOf plan) (h .range) capacity (t .calls) in
-      let g = W.reached (lineOf plan) (h .range) capacity (t .calls) in
-      let one = W.one-machine (lineOf plan) (h .range) capacity (t .calls) in
+      let q = W.demand (lineOf plan) (h .range) setting (t .calls) in
+      let g = W.reached (lineOf plan) (h .range) setting (t .calls) in
+      let one = W.one-machine (lineOf plan) (h .range) setting (t .calls) in
       record {
         engine = t .engine;
         calls = t .calls;

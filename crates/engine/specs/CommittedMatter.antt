@@ -4,6 +4,7 @@ use mathlib.Core.List.{List}
 use Prim.Native.Nat.{ℕ}
 use Rattle.line.specs.Matter.{Suits}
 use Rattle.line.specs.Order.{All}
+use Rattle.rules.specs.Engine.{Setting}
 use Rattle.rules.specs.Demand.{Made}
 use Rattle.engine_promises.specs.Represents.{lineOf}
 use Rattle.engine.specs.Session.{Whole}
@@ -11,5 +12,5 @@ use Rattle.engine.specs.Session.{Whole}
 -- of every list of calls after an accepted opening: each event of the log that the joined logs are has a matter that number 10 accepts
 abbrev pub CommittedMatter : Type 0
 CommittedMatter =
-    (plan : List ℕ) (capacity : ℕ) (ms : List Made) (ys : List ℕ) (w : Whole plan capacity ms ys)
+    (plan : List ℕ) (setting : Setting) (ms : List Made) (ys : List ℕ) (w : Whole plan setting ms ys)
     → All (λ x. Suits (lineOf plan .count) (x .matter)) (w .demand .machine .log)

@@ -5,6 +5,7 @@ use Rattle.line.specs.declared.Event.{Event}
 use Rattle.line.specs.declared.State.{State}
 use Rattle.line.specs.LastFrame.{Hears, LastFrame}
 use Rattle.line.specs.Station.{Plan, runEvent}
+use Rattle.rules.specs.Engine.{Setting}
 use Rattle.rules.specs.Demand.{Made, lastCommit}
 use Rattle.engine.specs.Session.{Whole}
 
@@ -13,5 +14,5 @@ pub record LastFrames : Type 0 where
   pub events : (p : Plan) (st : State) (x : Event) → Hears (x .time) st (runEvent p st x .after)
   -- of every list of calls after an accepted opening: each state of the machine, which a station's record is (`records-then` of `Whole`), has no and 0
   -- where its heard is 0, else yes and a time before the commit time
-  pub records : (plan : List ℕ) (capacity : ℕ) (ms : List Made) (ys : List ℕ) (w : Whole plan capacity ms ys) (s : ℕ)
+  pub records : (plan : List ℕ) (setting : Setting) (ms : List Made) (ys : List ℕ) (w : Whole plan setting ms ys) (s : ℕ)
       → LastFrame (lastCommit 0 ms) (w .demand .machine .states s)

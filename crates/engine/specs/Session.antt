@@ -8,17 +8,18 @@ use Rattle.refusal.specs.declared.Refusal.{Refusal}
 use Rattle.refusal.specs.Tests.{judged}
 use Rattle.refusal.specs.Cases.{checksOf}
 use Rattle.rules.specs.Machine.{Machine}
-use Rattle.rules.specs.Engine.{Engine, opened, Call, Post, Retract, RunStation, RunLowest, Commit, Record, Answer, Recorded}
+use Rattle.rules.specs.Engine.{Setting, chosen, Engine, opened, Call, Post, Retract, RunStation, RunLowest, Commit, Record, Answer, Recorded}
 use Rattle.rules.specs.Demand.{Made, Calls, Comes, Demand}
 use Rattle.engine_answers.specs.declared.OpenAnswer.{OpenAnswer}
 use Rattle.engine_answers.specs.declared.OpenAnswer.the-variants.{Done, Refused as Unopened}
 use Rattle.engine_answers.specs.declared.PostAnswer.{PostAnswer}
 use Rattle.engine_answers.specs.declared.RetractAnswer.{RetractAnswer}
 use Rattle.engine_answers.specs.declared.RunAnswer.{RunAnswer}
+use Rattle.engine_answers.specs.declared.LowestAnswer.{LowestAnswer}
 use Rattle.engine_answers.specs.declared.CommitAnswer.{CommitAnswer}
 use Rattle.engine_answers.specs.declared.RecordAnswer.{RecordAnswer}
 use Rattle.engine_promises.specs.Represents.{lineOf, Represents}
-use Rattle.engine_promises.specs.Answers.{openSays, postSaid, retractSaid, runSaid, commitSaid, recordSaid}
+use Rattle.engine_promises.specs.Answers.{openSays, postSaid, retractSaid, runSaid, lowestSaid, commitSaid, recordSaid}
 use Rattle.engine_promises.specs.Promises.{openCases, Opens, Answered, Commits}
 
 abbrev pub made : Call → Answer → Made
@@ -33,18 +34,18 @@ pub data Chain : List ℕ → List Made → List ℕ → Type 0 where
       → Chain xs (made (Retract n) (retractSaid r) ∷ ms) zs
   run-station : {xs ys zs : List ℕ} {ms : List Made} {s : ℕ} (r : RunAnswer) → Answered (RunStation s) (runSaid r) xs ys → Chain ys ms zs
       → Chain xs (made (RunStation s) (runSaid r) ∷ ms) zs
-  run-lowest : {xs ys zs : List ℕ} {ms : List Made} (r : RunAnswer) → Answered RunLowest (runSaid r) xs ys → Chain ys ms zs
-      → Chain xs (made RunLowest (runSaid r) ∷ ms) zs
+  run-lowest : {xs ys zs : List ℕ} {ms : List Made} (r : LowestAnswer) → Answered RunLowest (lowestSaid r) xs ys → Chain ys ms zs
+      → Chain xs (made RunLowest (lowestSaid r) ∷ ms) zs
   commit : {xs ys zs output left : List ℕ} {ms : List Made} {c : ℕ} (r : CommitAnswer) → Commits (Commit c) (commitSaid r) xs ys output left → Chain ys ms zs
       → Chain xs (made (Commit c output) (commitSaid r left) ∷ ms) zs
   record-of : {xs zs : List ℕ} {ms : List Made} {s : ℕ} (r : RecordAnswer) → Answered (Record s) (recordSaid r) xs xs → Chain xs ms zs
       → Chain xs (made (Record s) (recordSaid r) ∷ ms) zs
 
--- what is claimed of a list of calls after an accepted opening, which leave the buffer ys
-pub record Whole (plan : List ℕ) (capacity : ℕ) (ms : List Made) (ys : List ℕ) : Type 0 where
+-- what is claimed of a list of calls after an accepted opening that chose the setting, which leave the buffer ys
+pub record Whole (plan : List ℕ) (setting : Setting) (ms : List Made) (ys : List ℕ) : Type 0 where
   -- every answer and every acceptance is the documents'
   pub engine : Engine
-  pub calls : Calls (lineOf plan) (opened (lineOf plan) capacity) ms engine
+  pub calls : Calls (lineOf plan) (opened (lineOf plan) setting) ms engine
   -- the bytes stand for the engine that the rules reach
   pub stands : Represents (lineOf plan) engine ys
   -- the joined logs are the machine's, and each record in the list is its state
@@ -60,7 +61,7 @@ pub record Session (plan : List ℕ) (width capacity : ℕ) (before : List ℕ) 
   -- it is accepted exactly where none of the documents' numbers refuses it; a refusal "changes nothing"
   pub opening : openSays r ≡ judged (checksOf (openCases plan width capacity (length before)))
   pub refusal : (e : Refusal) → r ≡ Unopened e → xs ≡ before
-  pub whole : r ≡ Done → (ys : List ℕ) (ms : List Made) → Chain xs ms ys → Whole plan capacity ms ys
+  pub whole : r ≡ Done → (ys : List ℕ) (ms : List Made) → Chain xs ms ys → Whole plan (chosen width capacity) ms ys
 
 abbrev pub Claim : Type 0
 Claim =

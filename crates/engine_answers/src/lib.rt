@@ -23,6 +23,16 @@ pub enum RunAnswer {
     Refused(Refusal),
 }
 
+// With the bitmap words that were read to find the station.
+pub enum LowestAnswer {
+    Done {
+        station: u64,
+        undone: u64,
+        words: u64,
+    },
+    Refused(Refusal),
+}
+
 pub enum CommitAnswer {
     Done { count: u64 },
     Refused(Refusal),

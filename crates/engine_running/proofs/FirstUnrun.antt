@@ -7,6 +7,7 @@ use native.Mathlib.Omega.{arith}
 use Rattle.line.specs.declared.Event.{Event}
 use Rattle.line.specs.Station.{Plan}
 use Rattle.rules.specs.Held.{unrun, event, Queue, leastUnrun}
+use Rattle.rules.specs.Engine.{Setting}
 use Rattle.rules.specs.Held.Found.{none as nothing, some as least-is}
 use Rattle.engine_rows.specs.Layout.{slotRow}
 use Rattle.entry.specs.Entry.{eventAt}
@@ -32,9 +33,9 @@ pub record Waits (n s x : ℕ) (xs : List ℕ) (q : Queue) (cells : List Cell) :
 abbrev pub Found : ℕ → ℕ → ℕ → List ℕ → Queue → List Cell → Type 0
 Found n s x xs q cells = ((x ≡ 0) × (leastUnrun s (q .held) ≡ nothing)) ⊎ Waits n s x xs q cells
 
-module _ {p : Plan} {n c now : ℕ} {xs : List ℕ} {q : Queue} (s x : ℕ) (l : s < n) (e : x ≡ firstUnrun xs n c s) where
+module _ {p : Plan} {setting : Setting} {n c now : ℕ} {xs : List ℕ} {q : Queue} (s x : ℕ) (l : s < n) (e : x ≡ firstUnrun xs n c s) where
   at-cell : (A : List Cell) (k : ℕ) (a : Event) (B : List Cell) → a .target ≡ s → NoneIn n s A
-      → Holds p n c now xs q (A ++ cell k (unrun a) ∷ B) → Waits n s x xs q (A ++ cell k (unrun a) ∷ B)
+      → Holds p setting n c now xs q (A ++ cell k (unrun a) ∷ B) → Waits n s x xs q (A ++ cell k (unrun a) ∷ B)
   at-cell A k a B t z H =
       let S = H .stores .stands in
       let y : NoneIn n (a .target) A = subst (λ u. NoneIn n u A) (sym t) z in
@@ -51,7 +52,7 @@ module _ {p : Plan} {n c now : ℕ} {xs : List ℕ} {q : Queue} (s x : ℕ) (l :
         stands = member S (cell x (unrun a)) m .0 .0;
       }
 
-  found-in : {cells : List Cell} → First n s cells → Holds p n c now xs q cells → Found n s x xs q cells
+  found-in : {cells : List Cell} → First n s cells → Holds p setting n c now xs q cells → Found n s x xs q cells
   found-in (none {cells = cells} z) H = inl (
     e ∙ first-unrun-none (H .stores .stands) s l z,
     subst (λ h. leastUnrun s h ≡ nothing) (sym (held-map cells) ∙ H .stores .held) (least-none n s cells z),
@@ -61,7 +62,7 @@ module _ {p : Plan} {n c now : ℕ} {xs : List ℕ} {q : Queue} (s x : ℕ) (l :
       let i : y ≡ cell (y .node) (unrun (event (y .held))) = ap (cell (y .node)) (w .0) in
       inr
       (subst (λ v. Waits n s x xs q (A ++ v ∷ B)) (sym i)
-      (at-cell A (y .node) (event (y .held)) B (w .1) z (subst (λ v. Holds p n c now xs q (A ++ v ∷ B)) i H)))
+      (at-cell A (y .node) (event (y .held)) B (w .1) z (subst (λ v. Holds p setting n c now xs q (A ++ v ∷ B)) i H)))
 
-  pub waiting-found : {cells : List Cell} → Holds p n c now xs q cells → Found n s x xs q cells
+  pub waiting-found : {cells : List Cell} → Holds p setting n c now xs q cells → Found n s x xs q cells
   waiting-found {cells} H = found-in (first n s cells) H

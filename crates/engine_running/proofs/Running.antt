@@ -81,8 +81,8 @@ pub reads-of : {n c s x i : ℕ} {xs : List ℕ} {v : Event} {r : Ran} {g : Conf
 reads-of {xs = xs} l i F h j k m o = record { inside = l; next = i; above = F .sound h .0 .above; event = slot-event F xs h j; outcome = rw (k, m) at o }
 
 module _ {p : Plan} {e : Engine} {xs : List ℕ} (R : Represents p e xs) {s x : ℕ} (l : s < p .count)
-    (i : x ≡ firstUnrun xs (p .count) (e .capacity) s) where
-  pub idle-so : (IsSlot (p .count) (e .capacity) (length xs) x → ⊥) → judged (checks p e (RunStation s)) ≡ refused 14
+    (i : x ≡ firstUnrun xs (p .count) (e .setting .capacity) s) where
+  pub idle-so : (IsSlot (p .count) (e .setting .capacity) (length xs) x → ⊥) → judged (checks p e (RunStation s)) ≡ refused 14
   idle-so z = go (waiting-found s x l i (R .holds))
     where
       go : ((x ≡ 0) × (leastUnrun s (e .queue .held) ≡ nothing)) ⊎ Waits (p .count) s x xs (e .queue) (R .cells) → judged (checks p e (RunStation s)) ≡ refused 14
@@ -96,7 +96,8 @@ module _ {p : Plan} {e : Engine} {xs : List ℕ} (R : Represents p e xs) {s x : 
       go (inl w) = absurd (omega (arith, w .0))
       go (inr w) = w
 
-module _ {p : Plan} {e : Engine} {xs : List ℕ} (R : Represents p e xs) {s x : ℕ} {v : Event} {r : Ran} (G : Reads (p .count) (e .capacity) s x xs v r)
+module _ {p : Plan} {e : Engine} {xs : List ℕ} (R : Represents p e xs) {s x : ℕ} {v : Event} {r : Ran}
+    (G : Reads (p .count) (e .setting .capacity) s x xs v r)
     (W : Waits (p .count) s x xs (e .queue) (R .cells)) where
   abbrev w : Event
   w = W .waiting
@@ -137,22 +138,24 @@ module _ {p : Plan} {e : Engine} {xs : List ℕ} (R : Represents p e xs) {s x : 
     held-are = sym (ap length (R .holds .stores .held)) ∙ held-length (R .cells)
 
     -- how many places the sends need
-    room-says : (room : ℕ) → HasRoom (p .count) (e .capacity) xs room → leb (length (o .sends)) room ≡ leb (length (R .cells) + length (o .sends)) (e .capacity)
+    room-says : (room : ℕ) → HasRoom (p .count) (e .setting .capacity) xs room
+        → leb (length (o .sends)) room ≡ leb (length (R .cells) + length (o .sends)) (e .setting .capacity)
     room-says room h =
-        h p (e .now) (e .queue) (R .cells) (R .holds) (length (o .sends)) (omega (arith, number-of, sends-few (f .first), sends-few (f .second)))
+        h p (e .setting) (e .now) (e .queue) (R .cells) (R .holds) (length (o .sends)) (omega (arith, number-of, sends-few (f .first), sends-few (f .second)))
 
-    pub full-so : {room : ℕ} → HasRoom (p .count) (e .capacity) xs room → room < length (sendsOf (f .first)) + length (sendsOf (f .second))
+    pub full-so : {room : ℕ} → HasRoom (p .count) (e .setting .capacity) xs room → room < length (sendsOf (f .first)) + length (sendsOf (f .second))
         → judged (checks p e (RunStation s)) ≡ refused 17
     full-so {room} h k =
-        let z : leb (length (R .cells) + length (o .sends)) (e .capacity) ≡ false =
+        let z : leb (length (R .cells) + length (o .sends)) (e .setting .capacity) ≡ false =
         sym (room-says room h) ∙ lt-leb (length (o .sends)) room (omega (arith, number-of)) in
-        run-17 p e s (G .inside) w (W .least) (is-within .0) (omega (arith, leb-false (length (R .cells) + length (o .sends)) (e .capacity) z, held-are))
+        run-17 p e s (G .inside) w (W .least) (is-within .0) (omega (arith, leb-false (length (R .cells) + length (o .sends)) (e .setting .capacity) z, held-are))
         (omega (arith, held-are, R .holds .stores .places))
 
-    module _ {room : ℕ} (h : HasRoom (p .count) (e .capacity) xs room) (k : length (sendsOf (f .first)) + length (sendsOf (f .second)) ≤ room) where
-      room-for : length (R .cells) + length (o .sends) ≤ e .capacity
+    module _ {room : ℕ} (h : HasRoom (p .count) (e .setting .capacity) xs room)
+        (k : length (sendsOf (f .first)) + length (sendsOf (f .second)) ≤ room) where
+      room-for : length (R .cells) + length (o .sends) ≤ e .setting .capacity
       room-for =
-          leb-true (length (R .cells) + length (o .sends)) (e .capacity)
+          leb-true (length (R .cells) + length (o .sends)) (e .setting .capacity)
           (sym (room-says room h) ∙ le-leb (length (o .sends)) room (omega (arith, number-of)))
 
       pub accepted-so : judged (checks p e (RunStation s)) ≡ accepted
@@ -160,7 +163,7 @@ module _ {p : Plan} {e : Engine} {xs : List ℕ} (R : Represents p e xs) {s x : 
 
     -- ---- the sends are added and the event is run
 
-    module _ {room : ℕ} (h : HasRoom (p .count) (e .capacity) xs room) (k : length (sendsOf (f .first)) + length (sendsOf (f .second)) ≤ room)
+    module _ {room : ℕ} (h : HasRoom (p .count) (e .setting .capacity) xs room) (k : length (sendsOf (f .first)) + length (sendsOf (f .second)) ≤ room)
         (low : (j : ℕ) → getD xs j 0 < 256) where
       first : First (w .target) w (e .queue .held)
       first = first-of p (R .range) e (posts p 0 (made R)) (retracted (made R)) (logs (made R)) (invariant R) s w (W .least)
@@ -205,7 +208,7 @@ module _ {p : Plan} {e : Engine} {xs : List ℕ} (R : Represents p e xs) {s x : 
             late = g .timely;
           }
 
-      start : Stage p (p .count) (e .capacity) (e .now) (e .queue) (addAll p (o .sends) (e .queue)) x w xs 0 [] [] (o .sends)
+      start : Stage p (e .setting) (p .count) (e .setting .capacity) (e .now) (e .queue) (addAll p (o .sends) (e .queue)) x w xs 0 [] [] (o .sends)
       start = record {
         left = e .queue;
         cells = R .cells;
@@ -224,10 +227,10 @@ module _ {p : Plan} {e : Engine} {xs : List ℕ} (R : Represents p e xs) {s x : 
         distinct = good .distinct;
       }
 
-      module _ (n1 k1 n2 k2 : ℕ) (ys zs us : List ℕ) (D : AddsSend (p .count) (e .capacity) xs (f .first) n1 k1 ys)
-          (E : AddsSend (p .count) (e .capacity) ys (f .second) n2 k2 zs) (T : RunsEvent (p .count) (e .capacity) zs x (f .state) n1 n2 us) (F : AfterHeader xs us) where
+      module _ (n1 k1 n2 k2 : ℕ) (ys zs us : List ℕ) (D : AddsSend (p .count) (e .setting .capacity) xs (f .first) n1 k1 ys)
+          (E : AddsSend (p .count) (e .setting .capacity) ys (f .second) n2 k2 zs) (T : RunsEvent (p .count) (e .setting .capacity) zs x (f .state) n1 n2 us) (F : AfterHeader xs us) where
         abbrev At : List ℕ → ℕ → List ℕ → List Event → List Event → Type 0
-        At = Stage p (p .count) (e .capacity) (e .now) (e .queue) (addAll p (o .sends) (e .queue)) x w
+        At = Stage p (e .setting) (p .count) (e .setting .capacity) (e .now) (e .queue) (addAll p (o .sends) (e .queue)) x w
 
         one : At ys k1 (nonzero n1) (sendsOf (f .first)) (sendsOf (f .second))
         one =
@@ -257,11 +260,11 @@ module _ {p : Plan} {e : Engine} {xs : List ℕ} (R : Represents p e xs) {s x : 
             let k = unrun-clear w (two .left .held) (two .mid .neat .strict) (two .mid .neat .blocked) (first-in (two .first)) in
             asym (run-in (λ y c. y .target ≡ w .target → Lt y w) z a (two .left .held) m k j) .is
 
-        becomes : HoldsAmong p (p .count) (e .capacity) (e .now) us left (two .cells)
+        becomes : HoldsAmong p (e .setting) (p .count) (e .setting .capacity) (e .now) us left (two .cells)
         unfolding made-of
         becomes =
-            subst (λ u. HoldsAmong p (p .count) (e .capacity) (e .now) us u (two .cells)) left-is
-            (T p (e .now) (two .left) (two .cells) w (two .mid .holds) (two .at) (first-least (two .first)) later
+            subst (λ u. HoldsAmong p (e .setting) (p .count) (e .setting .capacity) (e .now) us u (two .cells)) left-is
+            (T p (e .setting) (e .now) (two .left) (two .cells) w (two .mid .holds) (two .at) (first-least (two .first)) later
             (after-is ∙ ap (λ c. runEvent p c w .after) (sym (two .state))) state-fit
             (subst (Nodes (two .cells) (nonzero n1 ++ nonzero n2)) (sym sends-are ∙ ap (λ c. runEvent p c w .sends) (sym (two .state))) (two .nodes)))
 

@@ -16,6 +16,7 @@ use Rattle.line.specs.Station.{Plan, States}
 use Rattle.line.specs.Order.{Lt, All}
 use Rattle.line.proofs.All.{all-map, all-snoc, Distinct}
 use Rattle.rules.specs.Held.{Held, unrun, ran, event, In, Queue}
+use Rattle.rules.specs.Engine.{Setting}
 use Rattle.rules.specs.Undo.{Does, Add}
 use Rattle.rules.specs.Executable.{runs, adding, addAll}
 use Rattle.rules.specs.Replay.{insertSorted, Fresh, Neat}
@@ -71,12 +72,13 @@ pub record Ready (p : Plan) (now : ℕ) (e : Event) (h : List Held) (y : Event) 
 
 -- the bytes hold what adding events has left of q: k are undone, the nodes ks are those of the events es, and rs are still to be added; the event e that
 -- runs is at node x
-pub record Stage (p : Plan) (n c now : ℕ) (q u : Queue) (x : ℕ) (e : Event) (xs : List ℕ) (k : ℕ) (ks : List ℕ) (es rs : List Event) : Type 0 where
+pub record Stage (p : Plan) (setting : Setting) (n c now : ℕ) (q u : Queue) (x : ℕ) (e : Event) (xs : List ℕ) (k : ℕ) (ks : List ℕ)
+    (es rs : List Event) : Type 0 where
   pub left : Queue
   pub cells : List Cell
   pub waiting : List Event
   pub states : States
-  pub mid : Mid p n c now xs left cells waiting states
+  pub mid : Mid p setting n c now xs left cells waiting states
   pub at : Has (cell x (unrun e)) cells
   pub first : First (e .target) e (left .held)
   pub state : left .states (e .target) ≡ q .states (e .target)
@@ -89,8 +91,9 @@ pub record Stage (p : Plan) (n c now : ℕ) (q u : Queue) (x : ℕ) (e : Event) 
   pub distinct : Distinct rs
 
 -- one more is added
-module _ {p : Plan} {n c now : ℕ} {q u : Queue} {x : ℕ} {e : Event} {xs : List ℕ} {k : ℕ} {ks : List ℕ} {es : List Event} (y : Event) {rs : List Event}
-    {node j : ℕ} {ys : List ℕ} (s : Stage p n c now q u x e xs k ks es (y ∷ rs)) (D : Adds n c xs y node j ys) where
+module _ {p : Plan} {setting : Setting} {n c now : ℕ} {q u : Queue} {x : ℕ} {e : Event} {xs : List ℕ} {k : ℕ} {ks : List ℕ} {es : List Event}
+    (y : Event) {rs : List Event}
+    {node j : ℕ} {ys : List ℕ} (s : Stage p setting n c now q u x e xs k ks es (y ∷ rs)) (D : Adds n c xs y node j ys) where
   R : Ready p now e (s .left .held) y
   R = s .each .0
 
@@ -114,13 +117,13 @@ module _ {p : Plan} {n c now : ℕ} {q u : Queue} {x : ℕ} {e : Event} {xs : Li
   new : New y (s .left .held)
   new = as-new y (s .left .held) (R .new)
 
-  comes : RollsTo p n c now j (s .left) ys after (cell node (unrun y) ∷ s .cells)
+  comes : RollsTo p setting n c now j (s .left) ys after (cell node (unrun y) ∷ s .cells)
   unfolding after
   comes =
-      D p now (s .left) (s .cells) (s .waiting) (s .states) (s .mid) (omega (arith, s .room)) (R .fits) (omega (arith, R .inside, s .mid .holds .stores .count))
+      D p setting now (s .left) (s .cells) (s .waiting) (s .states) (s .mid) (omega (arith, s .room)) (R .fits) (omega (arith, R .inside, s .mid .holds .stores .count))
       (R .early) (R .late) new
 
-  B : HoldsAmong p n c now ys after (cell node (unrun y) ∷ s .cells)
+  B : HoldsAmong p setting n c now ys after (cell node (unrun y) ∷ s .cells)
   B = comes .becomes
 
   held-is : heldOf (B .after) ≡ after .held
@@ -167,7 +170,7 @@ module _ {p : Plan} {n c now : ℕ} {q u : Queue} {x : ℕ} {e : Event} {xs : Li
         late = r .late;
       })
 
-  pub one-more : Stage p n c now q u x e ys (k + j) (ks ++ (node ∷ [])) (es ++ (y ∷ [])) rs
+  pub one-more : Stage p setting n c now q u x e ys (k + j) (ks ++ (node ∷ [])) (es ++ (y ∷ [])) rs
   unfolding addAll after
   one-more = record {
     left = after;
@@ -192,12 +195,12 @@ module _ {p : Plan} {n c now : ℕ} {q u : Queue} {x : ℕ} {e : Event} {xs : Li
   }
 
 -- a place for a send is added, empty or not
-pub send-more : {p : Plan} {n c now : ℕ} {q u : Queue} {x : ℕ} {e : Event} {xs : List ℕ} {k : ℕ} {ks : List ℕ} {es : List Event} (a : Sending) {rs : List Event}
-    (node j : ℕ) {ys : List ℕ} → Stage p n c now q u x e xs k ks es (sendsOf a ++ rs) → AddsSend n c xs a node j ys
-    → Stage p n c now q u x e ys (k + j) (ks ++ nonzero node) (es ++ sendsOf a) rs
-send-more {p} {n} {c} {now} {q} {u} {x} {e} {xs} {k} {ks} {es} Nothing {rs} node j {ys} s D =
+pub send-more : {p : Plan} {setting : Setting} {n c now : ℕ} {q u : Queue} {x : ℕ} {e : Event} {xs : List ℕ} {k : ℕ} {ks : List ℕ} {es : List Event} (a : Sending) {rs : List Event}
+    (node j : ℕ) {ys : List ℕ} → Stage p setting n c now q u x e xs k ks es (sendsOf a ++ rs) → AddsSend n c xs a node j ys
+    → Stage p setting n c now q u x e ys (k + j) (ks ++ nonzero node) (es ++ sendsOf a) rs
+send-more {p} {setting} {n} {c} {now} {q} {u} {x} {e} {xs} {k} {ks} {es} Nothing {rs} node j {ys} s D =
     let i : k + j ≡ k = omega (arith, D .1) in
     rw (D .2, D .0, i, append-nil ks, append-nil es) s
-send-more {p} {n} {c} {now} {q} {u} {x} {e} {xs} {k} {ks} {es} (Sends y) {rs} node j {ys} s D =
+send-more {p} {setting} {n} {c} {now} {q} {u} {x} {e} {xs} {k} {ks} {es} (Sends y) {rs} node j {ys} s D =
     let l = added-above y s D in
     rw (ne-eqb node 0 (λ z. omega (arith, l, z))) (one-more y s D)

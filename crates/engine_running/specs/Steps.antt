@@ -1,4 +1,4 @@
--- What the calls' private steps ensure; no promise to a caller cites these.
+-- What the call's private steps ensure; no promise to a caller cites these.
 use mathlib.Core.Path.{_≡_}
 use mathlib.Core.List.{List}
 use Prim.Native.Nat.{ℕ, _+_, _≤_, _<_}
@@ -11,8 +11,7 @@ use Rattle.line.specs.declared.Sending.{Sending}
 use Rattle.line.specs.declared.Sending.the-variants.{Nothing, Sends}
 use Rattle.line.specs.Answer.{counted, sendsOf, said}
 use Rattle.line.specs.Station.{Plan, runAt}
-use Rattle.rules.specs.Held.{Lowest}
-use Rattle.rules.specs.Engine.{Engine, RunStation, RunLowest, Refused}
+use Rattle.rules.specs.Engine.{Engine, RunStation}
 use Rattle.rules.specs.Checks.{checks}
 use Rattle.engine_ends.specs.Ends.{firstUnrun}
 use Rattle.entry.specs.Entry.{eventAt}
@@ -20,16 +19,12 @@ use Rattle.engine_records.specs.Records.{stateAt, storedConfig}
 use Rattle.engine_rows.specs.Layout.{stationRow, slotRow}
 use Rattle.engine_index.specs.Layout.{freeRing, slotOf}
 use Rattle.engine_rollback.specs.Promises.{Adds}
-use Rattle.engine_answers.specs.declared.RunAnswer.{RunAnswer}
 use Rattle.engine_answers.specs.declared.RunAnswer.the-variants as A
 use Rattle.engine_promises.specs.Represents.{Represents}
-use Rattle.engine_promises.specs.Answers.{runSaid}
-use Rattle.engine_promises.specs.Promises.{Becomes}
-use Rattle.engine_promises.specs.Steps.{JudgesCall, Numbered, HasRoom}
+use Rattle.engine_promises.specs.Steps.{HasRoom}
+use Rattle.engine_running.specs.Promises.{RunsAt}
 use Rattle.engine_running.specs.declared.RunJudged.{RunJudged}
 use Rattle.engine_running.specs.declared.RunJudged.the-variants as J
-use Rattle.engine_running.specs.declared.LowestJudged.{LowestJudged}
-use Rattle.engine_running.specs.declared.LowestJudged.the-variants as L
 
 -- nothing, or an event is added
 abbrev pub AddsSend : ℕ → ℕ → List ℕ → Sending → ℕ → ℕ → List ℕ → Type 0
@@ -54,27 +49,11 @@ pub record RunReads (n c s x : ℕ) (f : Effect) (xs : List ℕ) : Type 0 where
   pub enough : length (sendsOf (f .first)) + length (sendsOf (f .second)) ≤ room
 
 pub record JudgesRun (n c s : ℕ) (xs : List ℕ) (r : RunJudged) : Type 0 where
-  pub number : (p : Plan) (e : Engine) → Represents p e xs → p .count ≡ n → e .capacity ≡ c → judged (checks p e (RunStation s)) ≡ runVerdict r
+  pub number : (p : Plan) (e : Engine) → Represents p e xs → p .count ≡ n → e .setting .capacity ≡ c → judged (checks p e (RunStation s)) ≡ runVerdict r
   pub reads : (x : ℕ) (f : Effect) → r ≡ J.Accepts x f → RunReads n c s x f xs
 
 -- ---- the run
 
--- run station and run lowest, once the station is known
-pub record RunsAt (n c s : ℕ) (r : RunAnswer) (xs ys : List ℕ) : Type 0 where
-  pub refusal : (k : ℕ) → runSaid r ≡ Refused k → ys ≡ xs
-  pub answer : (p : Plan) (e : Engine) → Represents p e xs → p .count ≡ n → e .capacity ≡ c → Becomes p e (RunStation s) (runSaid r) ys
-
 -- the event of node x is run, as it was judged
 abbrev pub RunsNode : ℕ → ℕ → ℕ → Effect → ℕ → List ℕ → List ℕ → Type 0
 RunsNode n c x f undone xs ys = (s : ℕ) → RunReads n c s x f xs → RunsAt n c s (A.Done s undone) xs ys
-
--- ---- run lowest
-
-abbrev pub lowestVerdict : LowestJudged → Verdict
-lowestVerdict (L.Accepts n c s) = accepted
-lowestVerdict (L.Refused r) = refused (numberOf r)
-
-pub record JudgesLowest (xs : List ℕ) (r : LowestJudged) : Type 0 where
-  pub number : JudgesCall RunLowest (lowestVerdict r) xs
-  pub numbers : (n c s : ℕ) → r ≡ L.Accepts n c s → Numbered n c xs
-  pub lowest : (n c s : ℕ) → r ≡ L.Accepts n c s → (p : Plan) (e : Engine) → Represents p e xs → Lowest (e .queue .held) s

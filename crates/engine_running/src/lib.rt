@@ -1,4 +1,4 @@
-// Run station and run lowest: the first unrun event of a station is run.
+// Run station, and what run lowest does once its station is known: the first unrun event of a station is run.
 //
 // A call first judges, by reading alone, and then changes: so a refusal leaves the buffer as it was. Each takes any bytes; a buffer that is too short for the
 // numbers of its own header, which no opening leaves so, is refused with 7.
@@ -6,14 +6,14 @@
 ghost use mathlib.Core.Path.{_≡_};
 ghost use Prim.Native.Nat.{_≤_};
 ghost use lib.ListN.{length};
-ghost use Rattle.rules.specs.Engine.Call.{RunStation, RunLowest};
+ghost use Rattle.rules.specs.Engine.Call.{RunStation};
 ghost use Rattle.engine_promises.specs.Answers.{runSaid};
 ghost use Rattle.engine_promises.specs.Promises.{Answered};
 ghost use Rattle.engine_promises.specs.Steps.{HasRoom};
-ghost use Rattle.engine_running.specs.Steps.{AddsSend, JudgesRun, RunsNode, RunsAt, JudgesLowest};
+ghost use Rattle.engine_running.specs.Steps.{AddsSend, JudgesRun, RunsNode};
+ghost use Rattle.engine_running.specs.Promises.{RunsAt};
 ghost use Rattle.line.specs.Answer.{sendsOf};
 ghost use Rattle.engine_events.specs.Promises.{AfterHeader};
-use calendar::Least;
 use engine_answers::RunAnswer;
 use engine_rollback::Added;
 use line::Effect;
@@ -112,7 +112,7 @@ fn run_node(b: &mut [u8], n: u16, c: u16, x: u16, effect: Effect) -> u64
 }
 
 // The first unrun event of station s is run.
-fn run_at(b: &mut [u8], n: u16, c: u16, s: u16) -> RunAnswer
+pub fn run_at(b: &mut [u8], n: u16, c: u16, s: u16) -> RunAnswer
     ensures { λ r. ⌜ RunsAt n c s r (now (b .entry)) (now (b .exit)) ⌝ }
 {
     match judge_run(b, n, c, s) {
@@ -125,7 +125,7 @@ fn run_at(b: &mut [u8], n: u16, c: u16, s: u16) -> RunAnswer
     }
 }
 
-// ---- the two calls
+// ---- the call
 
 // The station's least unrun event is run.
 pub fn run_station(b: &mut [u8], station: u64) -> RunAnswer
@@ -137,39 +137,4 @@ pub fn run_station(b: &mut [u8], station: u64) -> RunAnswer
     let n = engine_promises::stations(b);
     let c = engine_promises::capacity(b);
     run_at(b, n, c, station as u16)
-}
-
-// What judging a run lowest finds: the station that the calendar names, with the line's numbers of stations and slots, or the refusal.
-enum LowestJudged {
-    Accepts { n: u16, c: u16, station: u16 },
-    Refused(Refusal),
-}
-
-// A run lowest is judged, but for what refuses the run of its station.
-fn judge_lowest(b: &[u8]) -> LowestJudged
-    ensures { λ r. ⌜ JudgesLowest (now (b .entry)) r ⌝ }
-{
-    let n = engine_promises::stations(b);
-    let c = engine_promises::capacity(b);
-    if !engine_events::fits(b, n, c) {
-        return LowestJudged::Refused(Refusal::Space);
-    }
-    let Least::At { station, time: _ } = engine_events::lowest(b, n, c) else {
-        return LowestJudged::Refused(Refusal::Idle);
-    };
-    if 65535 < station {
-        return LowestJudged::Refused(Refusal::Station);
-    }
-    let station = station as u16;
-    LowestJudged::Accepts { n, c, station }
-}
-
-// The same for the station that the calendar names.
-pub fn run_lowest(b: &mut [u8]) -> RunAnswer
-    ensures { λ r. ⌜ Answered RunLowest (runSaid r) (now (b .entry)) (now (b .exit)) ⌝ }
-{
-    match judge_lowest(b) {
-        LowestJudged::Refused(e) => RunAnswer::Refused(e),
-        LowestJudged::Accepts { n, c, station } => run_at(b, n, c, station),
-    }
 }
