@@ -2,7 +2,7 @@
 use mathlib.Core.List.{List, [], _++_}
 use Prim.Native.Nat.{ℕ, zero, suc, _*_, min}
 use Rattle.refusal.specs.Numbers.{numberOf}
-use Rattle.rules.specs.Engine.{Call, Post, Retract, RunStation, RunLowest, Commit, Answer, Refused, Posted, Retracted, Ran, Committed, Recorded}
+use Rattle.rules.specs.Engine.{Call, Post, Retract, RunStation, RunLowest, Commit, Answer, Refused, Posted, Retracted, Ran, RanLowest, Committed, Recorded}
 use Rattle.entry.specs.Entry.{eventAt}
 use Rattle.engine_answers.specs.declared.OpenAnswer.{OpenAnswer}
 use Rattle.engine_answers.specs.declared.OpenAnswer.the-variants as Open
@@ -25,12 +25,14 @@ entryLines zero output = []
 entryLines (suc k) output = entryLines k output ++ entryLine (eventAt (24 * k) output)
 
 -- "post: number, undone; run: station, undone; retract: undone; commit: first a line for each event .., then its count"; "A refusal prints "no
--- NUMBER"". The output of 1536 bytes has 64 entries; a commit of more is refused, and no command asks for a record
+-- NUMBER"". The output of 1536 bytes has 64 entries; a commit of more is refused, and no command asks for a record. Of a run lowest "The bench program
+-- doesn't print" the count of bitmap words read (document 02, change 5)
 unfoldable pub linesOf : Answer → List ℕ
 linesOf (Refused n) = outputOf (Out.No n)
 linesOf (Posted number undone) = outputOf (Out.Post number undone)
 linesOf (Retracted undone) = outputOf (Out.Retract undone)
 linesOf (Ran station undone) = outputOf (Out.Run station undone)
+linesOf (RanLowest station undone words) = outputOf (Out.Run station undone)
 linesOf (Committed count output) = entryLines (min count 64) output ++ outputOf (Out.Commit count)
 linesOf (Recorded state) = []
 

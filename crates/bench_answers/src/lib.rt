@@ -5,7 +5,7 @@ ghost use mathlib.Core.List.{_++_};
 ghost use Prim.Native.Nat.{_≤_, min};
 ghost use lib.ListN.{length};
 ghost use Rattle.refusal.specs.Numbers.{numberOf};
-ghost use Rattle.engine_promises.specs.Answers.{postSaid, retractSaid, runSaid};
+ghost use Rattle.engine_promises.specs.Answers.{postSaid, retractSaid, runSaid, lowestSaid};
 ghost use Rattle.bench_command.specs.declared.Command.the-variants.{Commit as AsksCommit};
 ghost use Rattle.bench_command.specs.declared.Output.the-variants.{No, Commit};
 ghost use Rattle.bench_command.specs.Lines.{outputOf};
@@ -16,6 +16,7 @@ use bench_command::Command;
 use bench_command::Output;
 use bench_command::Parsed;
 use engine::CommitAnswer;
+use engine::LowestAnswer;
 use engine::OpenAnswer;
 use engine::PostAnswer;
 use engine::RetractAnswer;
@@ -59,6 +60,20 @@ fn ran(a: RunAnswer) -> Output
     match a {
         RunAnswer::Done { station, undone } => Output::Run { station, undone },
         RunAnswer::Refused(e) => refused(e),
+    }
+}
+
+// The count of bitmap words read is not printed.
+fn ran_lowest(a: LowestAnswer) -> Output
+    ensures { λ r. ⌜ outputOf r ≡ linesOf (lowestSaid a) ⌝ }
+{
+    match a {
+        LowestAnswer::Done {
+            station,
+            undone,
+            words: _,
+        } => Output::Run { station, undone },
+        LowestAnswer::Refused(e) => refused(e),
     }
 }
 
@@ -118,7 +133,7 @@ fn obey(b: &mut [u8], c: Command, text: &mut [u8]) -> usize
             0,
             retracted(engine::retract(b, number)),
         ),
-        Command::Run => bench_printing::print(text, 0, ran(engine::run_lowest(b))),
+        Command::Run => bench_printing::print(text, 0, ran_lowest(engine::run_lowest(b))),
         Command::RunStation { station } => bench_printing::print(
             text,
             0,

@@ -7,7 +7,7 @@ use lib.ListN.{length, length-append}
 use Rattle.refusal.specs.declared.Refusal.{Refusal}
 use Rattle.refusal.specs.Cases.{firstOf}
 use Rattle.line.specs.Station.{Plan}
-use Rattle.rules.specs.Engine.{opened}
+use Rattle.rules.specs.Engine.{chosen, opened}
 use Rattle.rules.proofs.Calls.Invariant.{opened-inv}
 use Rattle.engine_answers.specs.declared.OpenAnswer.{OpenAnswer}
 use Rattle.engine_answers.specs.declared.OpenAnswer.the-variants.{Done, Refused}
@@ -85,11 +85,11 @@ bench-printouts plan input printed other (accepted {opened = xs} l o c) (accepte
   where
     twins : Twins (lineOf plan) xs ys
     twins = record {
-      engine = opened (lineOf plan) 64;
+      engine = opened (lineOf plan) (chosen 64 64);
       posts = [];
       gone = [];
       log = [];
-      inv = opened-inv (lineOf plan) 64;
+      inv = opened-inv (lineOf plan) (chosen 64 64);
       one = o .opens refl;
       other = k .opens refl;
     }

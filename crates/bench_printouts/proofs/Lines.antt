@@ -10,7 +10,7 @@ use Rattle.words.specs.Le.{leAt, loadAt}
 use Rattle.words.proofs.Cases.{lt-or}
 use Rattle.words.proofs.Total.{load-in, load-out}
 use Rattle.entry.specs.Entry.{eventAt}
-use Rattle.rules.specs.Engine.{Answer, Refused, Posted, Retracted, Ran, Committed, Recorded}
+use Rattle.rules.specs.Engine.{Answer, Refused, Posted, Retracted, Ran, RanLowest, Committed, Recorded}
 use Rattle.rules.specs.Alike.{trimmed}
 use Rattle.bench_command.specs.declared.Output.the-variants as Out
 use Rattle.bench_command.specs.Lines.{outputOf}
@@ -48,6 +48,7 @@ lines-trimmed (Refused n) = refl
 lines-trimmed (Posted number undone) = refl
 lines-trimmed (Retracted undone) = refl
 lines-trimmed (Ran station undone) = refl
+lines-trimmed (RanLowest station undone words) = refl
 lines-trimmed (Committed count output) = ap (λ ls. ls ++ outputOf (Out.Commit count)) (entries-front (min count 64) count output (omega arith))
 lines-trimmed (Recorded state) = refl
 

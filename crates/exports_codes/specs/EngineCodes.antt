@@ -12,6 +12,8 @@ use Rattle.engine_answers.specs.declared.RetractAnswer.{RetractAnswer}
 use Rattle.engine_answers.specs.declared.RetractAnswer.the-variants as T
 use Rattle.engine_answers.specs.declared.RunAnswer.{RunAnswer}
 use Rattle.engine_answers.specs.declared.RunAnswer.the-variants as R
+use Rattle.engine_answers.specs.declared.LowestAnswer.{LowestAnswer}
+use Rattle.engine_answers.specs.declared.LowestAnswer.the-variants as L
 use Rattle.engine_answers.specs.declared.CommitAnswer.{CommitAnswer}
 use Rattle.engine_answers.specs.declared.CommitAnswer.the-variants as C
 use Rattle.engine_answers.specs.declared.RecordAnswer.{RecordAnswer}
@@ -35,6 +37,10 @@ retractCode (T.Refused e) = numberOf e
 abbrev pub runCode : RunAnswer → ℕ
 runCode (R.Done station undone) = 0
 runCode (R.Refused e) = numberOf e
+
+abbrev pub lowestCode : LowestAnswer → ℕ
+lowestCode (L.Done station undone words) = 0
+lowestCode (L.Refused e) = numberOf e
 
 abbrev pub commitCode : CommitAnswer → ℕ
 commitCode (C.Done count) = 0
@@ -61,6 +67,10 @@ retractValues (T.Refused e) old = old
 abbrev pub runValues : RunAnswer → List ℕ → List ℕ
 runValues (R.Done station undone) old = set (set old 0 station) 1 undone
 runValues (R.Refused e) old = old
+
+abbrev pub lowestValues : LowestAnswer → List ℕ → List ℕ
+lowestValues (L.Done station undone words) old = set (set (set old 0 station) 1 undone) 2 words
+lowestValues (L.Refused e) old = old
 
 abbrev pub commitValues : CommitAnswer → List ℕ → List ℕ
 commitValues (C.Done count) old = set old 0 count

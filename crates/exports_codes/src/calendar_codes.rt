@@ -14,14 +14,19 @@ pub fn code(a: Answer) -> u64
     }
 }
 
-// The time and the station go to `at`, which a refusal leaves as it was.
-pub fn tell(l: Least, at: &mut [u64; 2]) -> u64
+// The time, the station and the count of bitmap words read go to `at`, which a refusal leaves as it was.
+pub fn tell(l: Least, at: &mut [u64; 3]) -> u64
     ensures { λ r. ⌜ (r ≡ leastCode l) × (now (at .exit) ≡ found l (now (at .entry))) ⌝ }
 {
     match l {
-        Least::At { station, time } => {
+        Least::At {
+            station,
+            time,
+            words,
+        } => {
             at[0] = time;
             at[1] = station;
+            at[2] = words;
             0
         }
         Least::Refused(e) => refusal::number(e),

@@ -1,9 +1,10 @@
 // The engine's answers as numbers. The values of an answer go to `at`, which a refusal leaves as it was, but for the station of 2, 4 and 5 in its first place.
 
 ghost use mathlib.Core.Path.{_≡_};
-ghost use Rattle.exports_codes.specs.EngineCodes.{openCode, postCode, retractCode, runCode, commitCode, recordCode, openValues, postValues, retractValues, runValues, commitValues, recordValues};
+ghost use Rattle.exports_codes.specs.EngineCodes.{openCode, postCode, retractCode, runCode, lowestCode, commitCode, recordCode, openValues, postValues, retractValues, runValues, lowestValues, commitValues, recordValues};
 use super::refusal_values::tell_station;
 use engine_answers::CommitAnswer;
+use engine_answers::LowestAnswer;
 use engine_answers::OpenAnswer;
 use engine_answers::PostAnswer;
 use engine_answers::RecordAnswer;
@@ -57,6 +58,24 @@ pub fn tell_run(a: RunAnswer, at: &mut [u64; 2]) -> u64
             0
         }
         RunAnswer::Refused(e) => refusal::number(e),
+    }
+}
+
+pub fn tell_lowest(a: LowestAnswer, at: &mut [u64; 3]) -> u64
+    ensures { λ r. ⌜ (r ≡ lowestCode a) × (now (at .exit) ≡ lowestValues a (now (at .entry))) ⌝ }
+{
+    match a {
+        LowestAnswer::Done {
+            station,
+            undone,
+            words,
+        } => {
+            at[0] = station;
+            at[1] = undone;
+            at[2] = words;
+            0
+        }
+        LowestAnswer::Refused(e) => refusal::number(e),
     }
 }
 

@@ -26,20 +26,20 @@ returns-2 c =
 returns-3 : tie.Need-returns-3
 returns-3 c =
     let at-print3 = c .before .before in
-    let at-ran = at-print3 .before in
-    let at-run-lowest = at-ran .before .before .before in
+    let at-ran-lowest = at-print3 .before in
+    let at-run-lowest = at-ran-lowest .before .before .before in
     let at-enum-told = at-run-lowest .before .before .before in
     let at-pre = at-enum-told .before .before .before .before in
-    obeys-line _ Run (at-enum-told .enum-told .given .1) (at-pre .pre) (at-run-lowest .run-lowest .ensures) (at-ran .ran .ensures) (at-print3 .print3 .ensures)
+    obeys-line _ Run (at-enum-told .enum-told .given .1) (at-pre .pre) (at-run-lowest .run-lowest .ensures) (at-ran-lowest .ran-lowest .ensures) (at-print3 .print3 .ensures)
 
 returns-4 : tie.Need-returns-4
 returns-4 c =
     let at-print4 = c .before .before in
-    let at-ran2 = at-print4 .before in
-    let at-run-station = at-ran2 .before .before .before in
+    let at-ran = at-print4 .before in
+    let at-run-station = at-ran .before .before .before in
     let at-c3 = at-run-station .before .before .before .before in
     let at-pre = at-c3 .before .before .before .before in
-    obeys-line _ (RunStation _) (at-c3 .c3 .given .1) (at-pre .pre) (at-run-station .run-station .ensures) (at-ran2 .ran2 .ensures) (at-print4 .print4 .ensures)
+    obeys-line _ (RunStation _) (at-c3 .c3 .given .1) (at-pre .pre) (at-run-station .run-station .ensures) (at-ran .ran .ensures) (at-print4 .print4 .ensures)
 
 returns-5 : tie.Need-returns-5
 returns-5 c =
