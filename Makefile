@@ -1,6 +1,6 @@
 # The gate is `sh .ci/run`. This file has what is run by hand.
 
-.PHONY: library example test outputs fuzz benchmark benchmark-calendar
+.PHONY: library example test outputs fuzz benchmark benchmark-widths benchmark-calendar
 
 CASES ?= 2000
 SEED ?= 1
@@ -44,6 +44,10 @@ fuzz: library
 benchmark: library
 	if [ -e /usr/include/ns3/core-module.h ]; then g++ -O2 -std=c++17 benchmarks/line_ns3.cc -lns3-core -o target/benchmark-ns3; fi
 	cd rust && $(CARGO) run --release --bin benchmark -- $(ROUNDS)
+
+# What a leaf width is chosen by: at each of seven, the bitmap words read a run lowest and the nanoseconds an event.
+benchmark-widths: library
+	cd rust && $(CARGO) run --release --bin benchmark -- widths $(ROUNDS)
 
 # The calendar against std's BTreeSet, in one run; ROUNDS=20 by default.
 benchmark-calendar: library

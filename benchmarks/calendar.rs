@@ -9,8 +9,8 @@ extern "C" {
     fn calendar_open(n: u64, width: u64, b: *mut u8, len: usize) -> u64;
     fn calendar_register(b: *mut u8, len: usize, station: u64, time: u64) -> u64;
     fn calendar_unregister(b: *mut u8, len: usize, station: u64) -> u64;
-    fn calendar_lowest(b: *const u8, len: usize, at: *mut [u64; 2]) -> u64;
-    fn calendar_extract(b: *mut u8, len: usize, at: *mut [u64; 2]) -> u64;
+    fn calendar_lowest(b: *const u8, len: usize, at: *mut [u64; 3]) -> u64;
+    fn calendar_extract(b: *mut u8, len: usize, at: *mut [u64; 3]) -> u64;
     fn calendar_advance(b: *mut u8, len: usize, floor: u64) -> u64;
 }
 
@@ -27,15 +27,18 @@ fn register(b: &mut [u8], s: u64, t: u64) -> u64 {
 fn unregister(b: &mut [u8], s: u64) -> u64 {
     unsafe { calendar_unregister(b.as_mut_ptr(), b.len(), s) }
 }
-fn lowest(b: &[u8]) -> Result<(u64, u64), u64> {
-    let mut at = [0; 2];
+// Time, station, and how many bitmap words were read.
+type Lowest = Result<(u64, u64, u64), u64>;
+
+fn lowest(b: &[u8]) -> Lowest {
+    let mut at = [0; 3];
     let code = unsafe { calendar_lowest(b.as_ptr(), b.len(), &mut at) };
-    if code == 0 { Ok((at[0], at[1])) } else { Err(code) }
+    if code == 0 { Ok((at[0], at[1], at[2])) } else { Err(code) }
 }
-fn extract(b: &mut [u8]) -> Result<(u64, u64), u64> {
-    let mut at = [0; 2];
+fn extract(b: &mut [u8]) -> Lowest {
+    let mut at = [0; 3];
     let code = unsafe { calendar_extract(b.as_mut_ptr(), b.len(), &mut at) };
-    if code == 0 { Ok((at[0], at[1])) } else { Err(code) }
+    if code == 0 { Ok((at[0], at[1], at[2])) } else { Err(code) }
 }
 fn advance(b: &mut [u8], floor: u64) -> u64 {
     unsafe { calendar_advance(b.as_mut_ptr(), b.len(), floor) }
@@ -56,14 +59,15 @@ impl Random {
 
 struct Model {
     n: u64,
+    w: u64,
     floor: u64,
     set: BTreeSet<(u64, u64)>,
     times: Vec<Option<u64>>,
 }
 
 impl Model {
-    fn new(n: u64) -> Model {
-        Model { n, floor: 0, set: BTreeSet::new(), times: vec![None; n as usize] }
+    fn new(n: u64, w: u64) -> Model {
+        Model { n, w, floor: 0, set: BTreeSet::new(), times: vec![None; n as usize] }
     }
     fn unregister(&mut self, s: u64) -> u64 {
         if s >= self.n {
@@ -89,13 +93,21 @@ impl Model {
         self.set.insert((t, s));
         0
     }
-    fn lowest(&self) -> Result<(u64, u64), u64> {
-        self.set.first().copied().ok_or(14)
+    // The root words from the floor's block on, to the first block in which a time lies, and a node word; 16 where none lies in 16 blocks.
+    fn words(&self) -> u64 {
+        let block = |t: u64| t / (256 * self.w);
+        let first = block(self.floor);
+        let filled = |b: &u64| self.times.iter().flatten().any(|&t| block(t) == *b);
+        (first..first + 16).find(filled).map_or(16, |b| b - first + 1 + 1)
     }
-    fn extract(&mut self) -> Result<(u64, u64), u64> {
-        let (t, s) = self.set.pop_first().ok_or(14u64)?;
-        self.times[s as usize] = None;
-        Ok((t, s))
+    fn lowest(&self) -> Lowest {
+        let (t, s) = self.set.first().copied().ok_or(14u64)?;
+        Ok((t, s, self.words()))
+    }
+    fn extract(&mut self) -> Lowest {
+        let found = self.lowest()?;
+        self.unregister(found.1);
+        Ok(found)
     }
     fn advance(&mut self, f: u64) -> u64 {
         if f > H + 1 {
@@ -104,7 +116,7 @@ impl Model {
         if f < self.floor {
             return 12;
         }
-        if self.lowest().map_or(false, |(t, _)| t < f) {
+        if self.set.first().map_or(false, |x| x.0 < f) {
             return 15;
         }
         self.floor = f;
@@ -117,7 +129,7 @@ fn same_answers(r: &mut Random) {
     let mut refused = [0u64; 16];
     for &(n, w, span) in &[(256u64, 64u64, 400_000u64), (7, 1, 9000), (256, 1, 300), (32, 1_048_576, 1 << 38), (40, 3, 20_000), (1, 64, 1 << 20)] {
         assert_eq!(open(n, w, &mut b), 0);
-        let mut m = Model::new(n);
+        let mut m = Model::new(n, w);
         for _ in 0..200_000 {
             let s = r.below(n + 1);
             let t = (m.floor + r.below(span)).saturating_sub(r.below(5));
@@ -130,7 +142,7 @@ fn same_answers(r: &mut Random) {
                     (x.err().unwrap_or(0), y.err().unwrap_or(0))
                 }
                 _ => {
-                    let low = m.lowest().map_or(m.floor + r.below(span / 8 + 1), |x| x.0);
+                    let low = m.set.first().map_or(m.floor + r.below(span / 8 + 1), |x| x.0);
                     let f = [low, m.floor + r.below(span / 64 + 1), m.floor.saturating_sub(1) + r.below(3)][r.below(3) as usize];
                     (advance(&mut b, f), m.advance(f))
                 }
@@ -141,6 +153,14 @@ fn same_answers(r: &mut Random) {
         }
     }
     println!("1200000 calls answered alike; refused by number: {:?}", refused.iter().enumerate().skip(1).filter(|x| *x.1 > 0).collect::<Vec<_>>());
+}
+
+// The number of an answer: of any bytes no more than 17 words are read.
+fn bounded(answer: Lowest) -> u64 {
+    answer.map_or_else(|e| e, |(_, _, words)| {
+        assert!(words <= 17, "more than 17 words read");
+        0
+    })
 }
 
 // Buffers of random bytes, and calendars with some bytes changed: a call ends, writes nothing outside, and a refusal changes nothing.
@@ -169,9 +189,9 @@ fn damaged_buffers(r: &mut Random) {
             let code = match r.below(5) {
                 0 => register(b, r.below(300), r.below(600_000)),
                 1 => unregister(b, r.below(300)),
-                2 => extract(b).err().unwrap_or(0),
+                2 => bounded(extract(b)),
                 3 => advance(b, r.below(600_000)),
-                _ => lowest(b).err().unwrap_or(0),
+                _ => bounded(lowest(b)),
             };
             if code == 0 {
                 done += 1;
@@ -203,7 +223,7 @@ fn calendar_cycle(b: &mut [u8], n: u64, w: u64, d: &[u64]) -> f64 {
     let mut sum = 0;
     for i in 0..CYCLES {
         sum ^= black_box(lowest(b)).unwrap().0;
-        let (t, s) = extract(b).unwrap();
+        let (t, s, _) = extract(b).unwrap();
         if i % 64 == 0 {
             advance(b, t);
         }

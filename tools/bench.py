@@ -39,12 +39,14 @@ def answer(engine, line):
     if call == "commit":
         lines = ["%d %d %d %d %d %d" % (k[0], k[1], m[0], k[2], k[3], m[1]) for k, m in said[1]]
         return lines + ["commit %d" % len(said[1])]
-    return [" ".join([dict(lowest="run").get(call, call)] + [str(n) for n in said[1:]])]
+    if call == "lowest":
+        call, said = "run", said[:3]  # the count of bitmap words read is not printed
+    return [" ".join([call] + [str(n) for n in said[1:]])]
 
 
 def bench(text, commands):
     plan = [dict(zip(FIELDS, numbers)) for numbers, _ in stations(text)]
-    engine = Engine(plan, 64)
+    engine = Engine(plan, 64, 64)
     lines = commands.split(b"\n")
     if lines[-1] == b"":
         lines.pop()

@@ -240,6 +240,19 @@ pub fn suits(n: u64, (kind, value): Matter) -> bool {
     }
 }
 
+/// How many bitmap words lowest reads: roots from the floor's block on to the first that is not zero, and a node; 16 roots where all are zero.
+pub fn words_read(width: u64, floor: u64, times: Vec<u64>) -> u64 {
+    let block = |time| time / (256 * width);
+    let mut read = 0;
+    for root in block(floor)..block(floor) + 16 {
+        read += 1;
+        if times.iter().any(|time| block(*time) == root) {
+            return read + 1;
+        }
+    }
+    read
+}
+
 struct Held {
     matter: Matter,
     run: Option<(State, Vec<Key>)>,
@@ -248,6 +261,7 @@ struct Held {
 /// The engine by the rules of undo, remove and add.
 pub struct Engine {
     pub line: Vec<Config>,
+    pub width: u64,
     pub capacity: u64,
     pub next: u64,
     pub now: u64,
@@ -267,8 +281,8 @@ pub fn entry(key: Key, matter: Matter) -> [u8; 24] {
 }
 
 impl Engine {
-    pub fn open(line: &[Config], capacity: u64) -> Engine {
-        Engine { line: line.to_vec(), capacity, next: 0, now: 0, states: line.iter().map(first_state).collect(), held: BTreeMap::new() }
+    pub fn open(line: &[Config], width: u64, capacity: u64) -> Engine {
+        Engine { line: line.to_vec(), width, capacity, next: 0, now: 0, states: line.iter().map(first_state).collect(), held: BTreeMap::new() }
     }
 
     fn n(&self) -> u64 {
@@ -369,11 +383,22 @@ impl Engine {
         Ok((station, self.undone(&before)))
     }
 
-    /// Of the stations of the lowest time the lowest-numbered one is run.
-    pub fn run_lowest(&mut self) -> Result<(u64, u64), u64> {
-        let unrun = self.held.iter().filter(|(_, h)| h.run.is_none());
-        let (_, station) = unrun.map(|(k, _)| (k.0, k.1)).min().ok_or(14u64)?;
-        self.run(station)
+    /// The lowest unrun time of each station that has one.
+    fn registered(&self) -> BTreeMap<u64, u64> {
+        let mut times = BTreeMap::new();
+        for (key, _) in self.held.iter().filter(|(_, h)| h.run.is_none()) {
+            let time = times.entry(key.1).or_insert(key.0);
+            *time = key.0.min(*time);
+        }
+        times
+    }
+
+    /// The station, undone, and the bitmap words read: of the stations of the lowest time the lowest-numbered one is run.
+    pub fn run_lowest(&mut self) -> Result<(u64, u64, u64), u64> {
+        let times = self.registered();
+        let (_, station) = times.iter().map(|(s, t)| (*t, *s)).min().ok_or(14u64)?;
+        let words = words_read(self.width, self.now, times.into_values().collect());
+        self.run(station).map(|(station, undone)| (station, undone, words))
     }
 
     pub fn commit(&mut self, time: u64, room: usize) -> Result<Vec<(Key, Matter)>, u64> {

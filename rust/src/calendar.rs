@@ -7,11 +7,12 @@ pub struct Calendar<'b> {
     bytes: &'b mut [u8],
 }
 
-/// The lowest time at which a station is registered, and the lowest-numbered station that is.
+/// The lowest time at which a station is registered, the lowest-numbered station that is, and how many bitmap words were read for it: 2 to 17.
 #[derive(Clone, Copy, PartialEq, Eq, Debug)]
 pub struct Lowest {
     pub time: u64,
     pub station: u64,
+    pub words: u64,
 }
 
 impl<'b> Calendar<'b> {
@@ -38,14 +39,14 @@ impl<'b> Calendar<'b> {
 
     /// The lowest-numbered station of the lowest time. Refusal: 14.
     pub fn lowest(&self) -> Result<Lowest, Refusal> {
-        let [time, station] = calls::lowest(self.bytes)?;
-        Ok(Lowest { time, station })
+        let [time, station, words] = calls::lowest(self.bytes)?;
+        Ok(Lowest { time, station, words })
     }
 
     /// The same, and it is taken out. Refusal: 14.
     pub fn extract(&mut self) -> Result<Lowest, Refusal> {
-        let [time, station] = calls::extract(self.bytes)?;
-        Ok(Lowest { time, station })
+        let [time, station, words] = calls::extract(self.bytes)?;
+        Ok(Lowest { time, station, words })
     }
 
     /// Raises the floor. Refusals: 11, 12, 15.

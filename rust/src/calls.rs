@@ -12,14 +12,14 @@ extern "C" {
     fn engine_post(b: *mut u8, len: usize, station: u64, time: u64, kind: u64, value: u64, at: *mut [u64; 2]) -> u64;
     fn engine_retract(b: *mut u8, len: usize, number: u64, at: *mut [u64; 2]) -> u64;
     fn engine_run_station(b: *mut u8, len: usize, station: u64, at: *mut [u64; 2]) -> u64;
-    fn engine_run_lowest(b: *mut u8, len: usize, at: *mut [u64; 2]) -> u64;
+    fn engine_run_lowest(b: *mut u8, len: usize, at: *mut [u64; 3]) -> u64;
     fn engine_commit(b: *mut u8, len: usize, time: u64, out: *mut u8, out_len: usize, at: *mut [u64; 2]) -> u64;
     fn engine_record(b: *const u8, len: usize, station: u64, at: *mut [u64; 7]) -> u64;
     fn calendar_open(n: u64, width: u64, b: *mut u8, len: usize) -> u64;
     fn calendar_register(b: *mut u8, len: usize, station: u64, time: u64) -> u64;
     fn calendar_unregister(b: *mut u8, len: usize, station: u64) -> u64;
-    fn calendar_lowest(b: *const u8, len: usize, at: *mut [u64; 2]) -> u64;
-    fn calendar_extract(b: *mut u8, len: usize, at: *mut [u64; 2]) -> u64;
+    fn calendar_lowest(b: *const u8, len: usize, at: *mut [u64; 3]) -> u64;
+    fn calendar_extract(b: *mut u8, len: usize, at: *mut [u64; 3]) -> u64;
     fn calendar_advance(b: *mut u8, len: usize, floor: u64) -> u64;
 }
 
@@ -70,7 +70,7 @@ pub fn run_station(b: &mut [u8], station: u64) -> Result<[u64; 2], Refusal> {
     answer(|at| unsafe { engine_run_station(b.as_mut_ptr(), b.len(), station, at) })
 }
 
-pub fn run_lowest(b: &mut [u8]) -> Result<[u64; 2], Refusal> {
+pub fn run_lowest(b: &mut [u8]) -> Result<[u64; 3], Refusal> {
     answer(|at| unsafe { engine_run_lowest(b.as_mut_ptr(), b.len(), at) })
 }
 
@@ -94,11 +94,11 @@ pub fn unregister(b: &mut [u8], station: u64) -> Result<(), Refusal> {
     done(unsafe { calendar_unregister(b.as_mut_ptr(), b.len(), station) })
 }
 
-pub fn lowest(b: &[u8]) -> Result<[u64; 2], Refusal> {
+pub fn lowest(b: &[u8]) -> Result<[u64; 3], Refusal> {
     answer(|at| unsafe { calendar_lowest(b.as_ptr(), b.len(), at) })
 }
 
-pub fn extract(b: &mut [u8]) -> Result<[u64; 2], Refusal> {
+pub fn extract(b: &mut [u8]) -> Result<[u64; 3], Refusal> {
     answer(|at| unsafe { calendar_extract(b.as_mut_ptr(), b.len(), at) })
 }
 

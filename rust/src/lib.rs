@@ -108,11 +108,19 @@ pub struct Posted {
     pub undone: u64,
 }
 
-/// An accepted run.
+/// An accepted run of a station.
 #[derive(Clone, Copy, PartialEq, Eq, Debug)]
 pub struct Run {
     pub station: u64,
     pub undone: u64,
+}
+
+/// An accepted run of the lowest, with how many bitmap words were read to find it: 2 to 17, by the leaf width. `make benchmark-widths` has a table of means.
+#[derive(Clone, Copy, PartialEq, Eq, Debug)]
+pub struct RunLowest {
+    pub station: u64,
+    pub undone: u64,
+    pub words: u64,
 }
 
 /// A station's state.
@@ -204,7 +212,7 @@ impl<'b> Engine<'b> {
         32_768 + 256 * stations + 256 * capacity
     }
 
-    /// Opens a plan, with a calendar of that leaf width. No answer of a call after it depends on the width, or on what the buffer held. Refusals: 1 to 5, 6, 7.
+    /// Opens a plan, with a calendar of that leaf width. No answer of a call after it depends on what the buffer held, and none but the words of `run_lowest` on the width. Refusals: 1 to 5, 6, 7.
     pub fn open(plan: &(impl AsRef<[u8]> + ?Sized), width: u64, capacity: u64, buffer: &'b mut [u8]) -> Result<Engine<'b>, Refusal> {
         calls::open(plan.as_ref(), width, capacity, buffer)?;
         Ok(Engine { bytes: buffer })
@@ -240,9 +248,9 @@ impl<'b> Engine<'b> {
     }
 
     /// Runs the least unrun event of the lowest-numbered station of the lowest time. Refusals: 14, 16, 17.
-    pub fn run_lowest(&mut self) -> Result<Run, Refusal> {
-        let [station, undone] = calls::run_lowest(self.bytes)?;
-        Ok(Run { station, undone })
+    pub fn run_lowest(&mut self) -> Result<RunLowest, Refusal> {
+        let [station, undone, words] = calls::run_lowest(self.bytes)?;
+        Ok(RunLowest { station, undone, words })
     }
 
     /// Writes the events before a time into the output, 24 bytes each, and drops them. Refusals: 11, 12, 15, 18.

@@ -1,6 +1,7 @@
 //! The engine against a plain machine on std's BinaryHeap that writes the same log, both in one run.
 //!
 //!     make benchmark [ROUNDS=9]
+//!     make benchmark-widths [ROUNDS=9]
 //!
 //! Every figure is nanoseconds a committed event, the median of the rounds; in each round every machine of a row takes its turn, and a ratio is the median of the
 //! rounds' ratios. The engine runs lowest in batches of 32 events and commits at every whole interval of simulated time that it can. The heap steps to the same times
@@ -56,12 +57,18 @@ struct Took {
     ns: u64,
     undone: u64,
     ran: u64,
+    words: u64,
     late: Vec<(u64, u64)>,
 }
 
 impl Took {
     fn each(&self) -> f64 {
         self.ns as f64 / self.events.max(1) as f64
+    }
+
+    /// Bitmap words read a run lowest.
+    fn words_each(&self) -> f64 {
+        self.words as f64 / self.ran.max(1) as f64
     }
 }
 
@@ -84,6 +91,7 @@ fn engine(work: &Work, capacity: u64, width: u64, percent: u64, events: u64) -> 
                 Ok(run) => {
                     took.ran += 1;
                     took.undone += run.undone;
+                    took.words += run.words;
                     stuck = false;
                 }
                 Err(_) => break,
@@ -236,8 +244,29 @@ fn profile(which: &str, events: u64) {
     println!("{} events, {:.0} ns each", took.events, took.each());
 }
 
+/// What a leaf width is chosen by: the bitmap words read a run lowest, and the nanoseconds an event.
+fn widths(rounds: usize) {
+    let works = [(4, MINUTE), (1, 7_500)].map(|(fan, interval)| Work { n: 256, fan, noise: 107_374_182, readers: 255, interval });
+    println!("| 256 stations, capacity 4096, noise 5 % | tree of 4: words read | ns an event | chain: words read | ns an event |\n|---|---|---|---|---|");
+    for width in (0..7).map(|k| 4u64.pow(k)) {
+        let mut read = [None; 2];
+        let row: [Rounds; 2] = rounds_of(rounds, |k| {
+            let took = engine(&works[k], 4096, width, 0, 200_000)?;
+            read[k] = Some(took.words_each());
+            Some(took.each())
+        });
+        let cells = [0, 1].map(|k| format!("{} | {}", read[k].map_or("-".into(), |x| format!("{x:.2}")), row[k].cell()));
+        println!("| w {width} | {} |", cells.join(" | "));
+    }
+}
+
 fn main() {
     let words: Vec<String> = std::env::args().collect();
+    if let [_, chosen, rest @ ..] = &words[..] {
+        if chosen == "widths" {
+            return widths(rest.first().map_or(9, |a| a.parse().expect("a number of rounds")));
+        }
+    }
     if let [_, profiled, which, events] = &words[..] {
         assert_eq!(profiled, "profile");
         return profile(which, events.parse().expect("a number of events"));

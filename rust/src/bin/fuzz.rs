@@ -50,14 +50,16 @@ fn compare(seed: u64) -> u64 {
     let buffer = &mut all[32..size + 32];
     let plan = reference::plan_bytes(&line);
     let mut engine = Engine::open(&plan, width, capacity, buffer).unwrap_or_else(|e| panic!("case {seed}: {e}"));
-    let mut model = reference::Engine::open(&line, capacity);
+    let mut model = reference::Engine::open(&line, width, capacity);
     let (mut posts, mut gone, mut logs) = (vec![], vec![], vec![]);
     let start = dice.pick(&[0, 0, 0, reference::H - 400]);
+    // in one block or the next; or past the ring's 16, so that every count of bitmap words read is met
+    let spread = if start == 0 && dice.one_in(2) { 20 * 256 * width } else { 100 };
     let mut calls = 0;
     for _ in 0..60 + dice.below(300) {
         calls += 1;
         let station = dice.below(n + n / 8 + 1);
-        let time = model.now.max(start) + dice.below(100);
+        let time = model.now.max(start) + dice.below(spread);
         match dice.below(100) {
             0..=17 => {
                 let kind = dice.pick(&[1, 2, 2, 3, 3, 0, 4]);
@@ -87,7 +89,7 @@ fn compare(seed: u64) -> u64 {
                 assert_eq!(a, model.run(station), "case {seed}, call {calls}: run {station}");
             }
             51..=78 => {
-                let a = number(engine.run_lowest()).map(|r| (r.station, r.undone));
+                let a = number(engine.run_lowest()).map(|r| (r.station, r.undone, r.words));
                 assert_eq!(a, model.run_lowest(), "case {seed}, call {calls}: run lowest");
             }
             79..=92 => {
