@@ -33,10 +33,6 @@ module _ (w end t x : ℕ) where
 turns-are : (b k slot : ℕ) → b * 256 ≤ k → k < b * 256 + 4096 → slot ≡ b % 16 → turnsTo slot (k % 4096) ≡ k - b * 256
 turns-are b k slot lo hi e = omega arith
 
--- how many blocks
-blocks-are : (b k slot : ℕ) → b * 256 ≤ k → k < b * 256 + 4096 → slot ≡ b % 16 → blocksTo slot (k % 4096) ≡ k / 256 - b
-blocks-are b k slot lo hi e = omega arith
-
 rank-before : (due : ℕ → ℕ) (h x : ℕ) → h < 256 → x < 256 → due h < due x → rankOf due h ≤ rankOf due x
 rank-before due h x lh lx q = rw (rank-station due h lh, rank-station due x lx) (omega arith)
 
@@ -70,13 +66,7 @@ module _ (xs : List ℕ) (S : Sound xs) where
 
   blocks-of : (x : ℕ) → x < 256 → Due xs x → bucketOf xs x < 4096
       → blocksTo (slotIn xs) (bucketOf xs x) ≡ blockOf 16 (widthOf xs) (dueOf xs x - 1) - blockOf 16 (widthOf xs) (floorOf xs)
-  blocks-of x l r b =
-      let R = in-ring x l r b in
-      let T = ring-turns (widthOf xs) (floorOf xs) (dueOf xs x - 1) (S .header .width-pos) (omega (arith, S .since x l r))
-      (subst (λ (y : ℕ). dueOf xs x - 1 < y) (S .header .limit-is) (R .0)) in
-      ap (blocksTo (slotIn xs)) (R .1)
-      ∙ blocks-are (blockOf 16 (widthOf xs) (floorOf xs)) ((dueOf xs x - 1) / widthOf xs) (slotIn xs) (T .0) (T .1) (S .header .slot-is)
-      ∙ ap (λ (y : ℕ). y - blockOf 16 (widthOf xs) (floorOf xs)) (div-div-eq-div-mul (dueOf xs x - 1) (widthOf xs) 256)
+  blocks-of x l r b = omega (arith, turns-of x l r b, S .header .slot-is, div-div-eq-div-mul (dueOf xs x - 1) (widthOf xs) 256)
 
   -- an earlier leaf in ring order has an earlier time
   earlier : (h x : ℕ) → h < 256 → x < 256 → Due xs h → Due xs x → bucketOf xs h < 4096 → bucketOf xs x < 4096

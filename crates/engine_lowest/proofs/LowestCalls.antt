@@ -12,7 +12,7 @@ use Rattle.calendar.specs.declared.Least.the-variants.{At, Refused as NoLeast}
 use Rattle.line.specs.Station.{Plan}
 use Rattle.rules.specs.Held.{Lowest}
 use Rattle.rules.specs.Engine.{Engine, RunStation, RunLowest, Refused, Ran, RanLowest}
-use Rattle.rules.specs.Calls.{Answers, run, lowest, lowest-refused as not-run, lowestWords}
+use Rattle.rules.specs.Calls.{Answers, run, lowest, lowest-refused, lowestWords}
 use Rattle.engine_events.specs.Promises.{Finds}
 use Rattle.engine_answers.specs.declared.RunAnswer.{RunAnswer}
 use Rattle.engine_answers.specs.declared.RunAnswer.the-variants as N
@@ -31,8 +31,8 @@ use Rattle.engine_promises.proofs.Refused.{judged-refused}
 
 -- ---- judging
 
-pub lowest-refused : {xs : List ℕ} (r : Refusal) → JudgesCall RunLowest (refused (numberOf r)) xs → JudgesLowest xs (L.Refused r)
-lowest-refused r f = record {
+pub refused-lowest : {xs : List ℕ} (r : Refusal) → JudgesCall RunLowest (refused (numberOf r)) xs → JudgesLowest xs (L.Refused r)
+refused-lowest r f = record {
   number = f;
   numbers = λ n c s w q. let z : _≡_ {A = ℕ} 0 1 = cc in absurd (omega arith);
   lowest = λ n c s w q. let z : _≡_ {A = ℕ} 0 1 = cc in absurd (omega arith);
@@ -93,7 +93,7 @@ module _ {xs : List ℕ} {j : LowestJudged} (I : JudgesLowest xs j) where
       answer = λ p e R.
           let m = I .numbers n c s w q p e R in
           let B = A .answer p e R (m .0) (m .1) in
-          record { after = B .after; answers = not-run (I .lowest n c s w q p e R) (B .answers); represents = B .represents };
+          record { after = B .after; answers = lowest-refused (I .lowest n c s w q p e R) (B .answers); represents = B .represents };
     }
     passes (N.Done t u) A = record {
       refusal = λ k z. let y : _≡_ {A = ℕ} 0 1 = cc in absurd (omega arith);

@@ -1,7 +1,7 @@
 -- A buffer that is too short, a line with no event and a station out of range are refused, each with its law; else the station is the calendar's.
 use borrow.Author.Tests.{not-true}
 use Rattle.engine_promises.proofs.ShortBuffer.{unfit-judged}
-use Rattle.engine_lowest.proofs.LowestCalls.{lowest-refused, none-lowest, far-lowest, lowest-judged}
+use Rattle.engine_lowest.proofs.LowestCalls.{refused-lowest, none-lowest, far-lowest, lowest-judged}
 use borrow.Author.Needs.{needs}
 use Rattle.engine_lowest.proofs.judge_lowest.Statement.{statement}
 use Rattle.engine_lowest.proofs.judge_lowest.Tie as tie
@@ -16,19 +16,19 @@ sized c = c .before .before .before
 returns : tie.Need-returns
 returns c =
     let k = c .before .before in
-    lowest-refused _ (unfit-judged (k .before .stations .ensures) (k .capacity .ensures) (c .before .fits2 .ensures) (not-true _ (c .if1 .taken)))
+    refused-lowest _ (unfit-judged (k .before .stations .ensures) (k .capacity .ensures) (c .before .fits2 .ensures) (not-true _ (c .if1 .taken)))
 
 returns-2 : tie.Need-returns-2
 returns-2 c =
     let l = c .before .before in
     let k = sized l in
-    lowest-refused _ (none-lowest (k .before .stations .ensures) (k .capacity .ensures) (l .lowest .ensures) (c .enum-told .given .1))
+    refused-lowest _ (none-lowest (k .before .stations .ensures) (k .capacity .ensures) (l .lowest .ensures) (c .enum-told .given .1))
 
 returns-3 : tie.Need-returns-3
 returns-3 c =
     let l = c .before .before .before .before in
     let k = sized l in
-    lowest-refused _ (far-lowest (k .before .stations .ensures) (k .capacity .ensures) (l .lowest .ensures) (c .before .before .station .given .1) (c .if2 .taken))
+    refused-lowest _ (far-lowest (k .before .stations .ensures) (k .capacity .ensures) (l .lowest .ensures) (c .before .before .station .given .1) (c .if2 .taken))
 
 -- ---- accepted
 
