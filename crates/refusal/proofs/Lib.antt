@@ -1,1 +1,2 @@
 pub mod CheckingOrder
+pub mod Arities

@@ -1,9 +1,9 @@
 -- What each number says, one test a number, for calendar and engine alike (document 01, "What each number says, in checking order"). The tests of
 -- 1 to 5 stand with the plan, 8 with the command line, 10 with the matter, and 13 to 15 with the held events.
 use Prim.Native.Nat.{ℕ, _+_, _*_}
-use mathlib.Core.Bool.{Bool, true, false, _||_}
+use mathlib.Core.Bool.{Bool, true, false, not, _||_}
 use mathlib.Core.List.{List, [], _∷_}
-use lib.Dec.{ltb, leb}
+use lib.Dec.{eqb, ltb, leb}
 
 -- H, the last time of an event ("Events and stations")
 abbrev pub horizon : ℕ
@@ -13,24 +13,29 @@ horizon = 1099511627775
 abbrev pub largest : ℕ
 largest = 4294967295
 
+-- 26: "arity not among the four, checked before 6" (document 02, change 9)
+abbrev pub arityOut : ℕ → Bool
+arityOut a = not (eqb a 8 || (eqb a 16 || (eqb a 32 || eqb a 64)))
+
 -- 6: the leaf width is out of range, 1 to 1048576
 abbrev pub widthOut : ℕ → Bool
 widthOut w = ltb w 1 || ltb 1048576 w
 
--- the bytes that a calendar of n stations needs, and an engine of n stations and so many events
-abbrev pub calendarBytes : ℕ → ℕ
-calendarBytes n = 32768 + 64 * n
+-- the bytes that a calendar of arity a and n stations needs, and an engine of these and so many events
+-- ("In number 7 the 32768 becomes 128 times the arity squared")
+abbrev pub calendarBytes : ℕ → ℕ → ℕ
+calendarBytes a n = 128 * (a * a) + 64 * n
 
-abbrev pub engineBytes : ℕ → ℕ → ℕ
-engineBytes n capacity = 32768 + 256 * n + 256 * capacity
+abbrev pub engineBytes : ℕ → ℕ → ℕ → ℕ
+engineBytes a n capacity = 128 * (a * a) + 256 * n + 256 * capacity
 
 -- 7: N is out of range for the calendar, or its buffer of the given length is too short
-abbrev pub calendarSpaceOut : ℕ → ℕ → Bool
-calendarSpaceOut n bytes = ltb n 1 || (ltb 256 n || ltb bytes (calendarBytes n))
+abbrev pub calendarSpaceOut : ℕ → ℕ → ℕ → Bool
+calendarSpaceOut a n bytes = ltb n 1 || (ltb 256 n || ltb bytes (calendarBytes a n))
 
 -- 7: the capacity is out of range, 2 to 4096, or the engine's buffer of the given length is too short
-abbrev pub engineSpaceOut : ℕ → ℕ → ℕ → Bool
-engineSpaceOut n capacity bytes = ltb capacity 2 || (ltb 4096 capacity || ltb bytes (engineBytes n capacity))
+abbrev pub engineSpaceOut : ℕ → ℕ → ℕ → ℕ → Bool
+engineSpaceOut a n capacity bytes = ltb capacity 2 || (ltb 4096 capacity || ltb bytes (engineBytes a n capacity))
 
 -- 9: the station is N or more
 abbrev pub stationOut : ℕ → ℕ → Bool

@@ -49,7 +49,7 @@ pub record Alike (ms ns : List Made) : Type 0 where
   pub answers : map blanked (callsOf ms) ≡ map blanked (callsOf ns) → map trimmed (answersOf ms) ≡ map trimmed (answersOf ns)
   pub logs-are : map blanked (callsOf ms) ≡ map blanked (callsOf ns) → logs ms ≡ logs ns
 
--- after openings with other leaf widths: the same of all but the counts
+-- after openings with other arities or leaf widths: the same of all but the counts
 pub record AlikeButCounts (ms ns : List Made) : Type 0 where
   pub same : callsOf ms ≡ callsOf ns → map uncounted (answersOf ms) ≡ map uncounted (answersOf ns)
   pub answers : map blanked (callsOf ms) ≡ map blanked (callsOf ns)

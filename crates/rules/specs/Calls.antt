@@ -42,7 +42,7 @@ running p q x =
 
 -- how many bitmap words the calendar reads to name the lowest station: its floor is the commit time
 unfoldable pub lowestWords : Plan → Engine → ℕ
-lowestWords p e = wordsRead 16 (e .setting .width) (e .now) (registeredFrom (e .queue .held) 0 (p .count))
+lowestWords p e = wordsRead (e .setting .arity) (e .setting .width) (e .now) (registeredFrom (e .queue .held) 0 (p .count))
 
 -- the count of a commit's log, and its output with the log's entries in front
 abbrev pub committed : List Event → List ℕ → Answer

@@ -5,13 +5,14 @@ use Rattle.line.specs.declared.State.{State}
 use Rattle.line.specs.Station.{Plan, initial}
 use Rattle.rules.specs.Held.{Queue}
 
--- what the opening chose
+-- what the opening chose: the calendar's shape by its arity (document 02, change 9), the leaf width and the capacity
 pub record Setting : Type 0 where
+  pub arity : ℕ
   pub width : ℕ
   pub capacity : ℕ
 
-abbrev pub chosen : ℕ → ℕ → Setting
-chosen width capacity = record { width = width; capacity = capacity }
+abbrev pub chosen : ℕ → ℕ → ℕ → Setting
+chosen arity width capacity = record { arity = arity; width = width; capacity = capacity }
 
 -- "The engine holds events .., and a commit time", what its opening chose, and the number of the next post
 pub record Engine : Type 0 where

@@ -36,7 +36,7 @@ answers =
     Posted 0 0 ∷ RanLowest 1 0 2 ∷ RanLowest 0 0 2 ∷ RanLowest 1 0 2 ∷ Posted 1 1 ∷ RanLowest 1 0 2 ∷ RanLowest 1 0 2
     ∷ Committed 4 (entries (at 0 1 posted 0 Read ∷ at 30 0 1 1 (Frame 1 0) ∷ at 500 1 posted 1 (Level 5000) ∷ at 1000 1 1 0 Read ∷ []) ++ zeros 1440) ∷ []
 
-pub bench : Gives plan (chosen 64 64) calls answers
+pub bench : Gives plan (chosen 16 64 64) calls answers
 unfolding plan station calls answers allIn parentOut numberOut nth pairs zeros
     settle postStep retractStep runStep stationStep lowestOf counting countingStep lowestWords commitStep answerTo answersTo
     runs beyond orThis latest removeEach undoFound undoWithin undoFrom removing adding addAll runLeast
@@ -44,7 +44,7 @@ unfolding plan station calls answers allIn parentOut numberOut nth pairs zeros
     noneIn wordsFrom wordsRead timeOf registered asTime registeredFrom
     same delete place leastUnrun mark isRun undone heldPost noneUnrun unrunBefore logged kept recordOf
     decide lex before update initial send silent period runRead drawnState lose hear repeat pass runFrame runLevel runMatter runAt runEvent nextDraw
-bench = computed plan (chosen 64 64) calls answers (in-range plan tt tt tt) refl
+bench = computed plan (chosen 16 64 64) calls answers (in-range plan tt tt tt) refl
 
 -- the 24 bytes of the third event
 pub third : entry (at 500 1 posted 1 (Level 5000))

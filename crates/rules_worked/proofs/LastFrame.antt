@@ -36,7 +36,7 @@ noisy : List Config
 noisy = station 16807 ∷ station 16807 ∷ []
 
 abbrev small : Setting
-small = chosen 64 8
+small = chosen 16 64 8
 
 -- a record of heard, lost and sent, where the level is 0
 abbrev is : ℕ → ℕ → ℕ → ℕ → ℕ → Bool → Answer
@@ -124,7 +124,7 @@ bench-gets =
 -- ---- what the rules give
 
 lists : Gives quiet small at-0 at-0-gets × Gives quiet small taken-back taken-back-gets × Gives quiet small late late-gets × Gives noisy small lost lost-gets
-    × Gives noisy small given-up given-up-gets × Gives quiet small on-the-way on-the-way-gets × Gives quiet (chosen 64 64) bench-calls bench-gets
+    × Gives noisy small given-up given-up-gets × Gives quiet small on-the-way on-the-way-gets × Gives quiet (chosen 16 64 64) bench-calls bench-gets
 unfolding quiet noisy at-0 at-0-gets taken-back taken-back-gets late late-gets lost lost-gets given-up given-up-gets on-the-way on-the-way-gets
     bench-calls bench-gets bench.calls bench.answers allIn parentOut numberOut nth pairs zeros
     settle postStep retractStep runStep stationStep lowestOf counting countingStep lowestWords commitStep answerTo answersTo
@@ -140,5 +140,5 @@ lists = (
   computed noisy small lost lost-gets (in-range noisy tt tt tt) refl,
   computed noisy small given-up given-up-gets (in-range noisy tt tt tt) refl,
   computed quiet small on-the-way on-the-way-gets (in-range quiet tt tt tt) refl,
-  computed quiet (chosen 64 64) bench-calls bench-gets (in-range quiet tt tt tt) refl,
+  computed quiet (chosen 16 64 64) bench-calls bench-gets (in-range quiet tt tt tt) refl,
 )

@@ -176,7 +176,7 @@ answers-1 =
     ∷ Refused 12
     ∷ []
 
-list-1 : Gives plan-1 (chosen 1 10) calls-1 answers-1
+list-1 : Gives plan-1 (chosen 16 1 10) calls-1 answers-1
 unfolding plan-1 calls-1 answers-1 allIn parentOut numberOut nth pairs zeros
     settle postStep retractStep runStep stationStep lowestOf counting countingStep lowestWords commitStep answerTo answersTo
     runs beyond orThis latest removeEach undoFound undoWithin undoFrom removing adding addAll runLeast
@@ -184,7 +184,7 @@ unfolding plan-1 calls-1 answers-1 allIn parentOut numberOut nth pairs zeros
     noneIn wordsFrom wordsRead timeOf registered asTime registeredFrom
     same delete place leastUnrun mark isRun undone heldPost noneUnrun unrunBefore logged kept recordOf
     decide lex before update initial send silent period runRead drawnState lose hear repeat pass runFrame runLevel runMatter runAt runEvent nextDraw
-list-1 = computed plan-1 (chosen 1 10) calls-1 answers-1 (in-range plan-1 tt tt tt) refl
+list-1 = computed plan-1 (chosen 16 1 10) calls-1 answers-1 (in-range plan-1 tt tt tt) refl
 
 plan-2 : List Config
 plan-2 =
@@ -341,7 +341,7 @@ answers-2 =
     ∷ RanLowest 2 0 4
     ∷ []
 
-list-2 : Gives plan-2 (chosen 2 40) calls-2 answers-2
+list-2 : Gives plan-2 (chosen 8 8 40) calls-2 answers-2
 unfolding plan-2 calls-2 answers-2 allIn parentOut numberOut nth pairs zeros
     settle postStep retractStep runStep stationStep lowestOf counting countingStep lowestWords commitStep answerTo answersTo
     runs beyond orThis latest removeEach undoFound undoWithin undoFrom removing adding addAll runLeast
@@ -349,4 +349,4 @@ unfolding plan-2 calls-2 answers-2 allIn parentOut numberOut nth pairs zeros
     noneIn wordsFrom wordsRead timeOf registered asTime registeredFrom
     same delete place leastUnrun mark isRun undone heldPost noneUnrun unrunBefore logged kept recordOf
     decide lex before update initial send silent period runRead drawnState lose hear repeat pass runFrame runLevel runMatter runAt runEvent nextDraw
-list-2 = computed plan-2 (chosen 2 40) calls-2 answers-2 (in-range plan-2 tt tt tt) refl
+list-2 = computed plan-2 (chosen 8 8 40) calls-2 answers-2 (in-range plan-2 tt tt tt) refl

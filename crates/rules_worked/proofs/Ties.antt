@@ -34,7 +34,7 @@ full-gets = Posted 0 0 ∷ Posted 1 0 ∷ RanLowest 0 0 2 ∷ Refused 17 ∷ []
 
 -- ---- what the rules give
 
-lists : Gives plan (chosen 64 8) levels levels-get × Gives plan (chosen 64 2) full full-gets
+lists : Gives plan (chosen 16 64 8) levels levels-get × Gives plan (chosen 16 64 2) full full-gets
 unfolding plan station levels levels-get full full-gets allIn parentOut numberOut nth pairs
     settle postStep runStep stationStep lowestOf counting countingStep lowestWords answerTo answersTo
     runs beyond orThis latest undoFound undoWithin undoFrom adding addAll runLeast
@@ -43,6 +43,6 @@ unfolding plan station levels levels-get full full-gets allIn parentOut numberOu
     same place leastUnrun mark isRun undone noneUnrun
     decide lex before update initial send silent period runRead runLevel runMatter runAt runEvent
 lists = (
-  computed plan (chosen 64 8) levels levels-get (in-range plan tt tt tt) refl,
-  computed plan (chosen 64 2) full full-gets (in-range plan tt tt tt) refl,
+  computed plan (chosen 16 64 8) levels levels-get (in-range plan tt tt tt) refl,
+  computed plan (chosen 16 64 2) full full-gets (in-range plan tt tt tt) refl,
 )

@@ -1,5 +1,5 @@
--- Bitmap words read (document 02, change 5): short lists at leaf width 1, where a block is 256 ms and the ring 4096, worked out by hand. The plan is that of
--- the bench program's worked list.
+-- Bitmap words read (document 02, changes 5 and 9): short lists at leaf width 1, where a block of arity 16 is 256 ms and the ring 4096, worked out by hand.
+-- The plan is that of the bench program's worked list.
 use mathlib.Core.Path.{refl}
 use mathlib.Core.List.{List, [], _∷_, _++_}
 use Rattle.words.specs.Le.{bytesOf}
@@ -21,13 +21,23 @@ use Rattle.rules_worked.proofs.Check.{nth, allIn, in-range, at, zeros, 
 use Rattle.rules_worked.proofs.Bench.{station, plan, calls}
 
 abbrev narrow : Setting
-narrow = chosen 1 64
+narrow = chosen 16 1 64
 
 -- ---- the bench program's worked list: its runs are at 0, 30, 1000, 500 and 1000, in the blocks 0, 0, 3, 1 and 3
 
 bench-gets : List Answer
 bench-gets =
     Posted 0 0 ∷ RanLowest 1 0 2 ∷ RanLowest 0 0 2 ∷ RanLowest 1 0 5 ∷ Posted 1 1 ∷ RanLowest 1 0 3 ∷ RanLowest 1 0 5
+    ∷ Committed 4 (entries (at 0 1 posted 0 Read ∷ at 30 0 1 1 (Frame 1 0) ∷ at 500 1 posted 1 (Level 5000) ∷ at 1000 1 1 0 Read ∷ []) ++ zeros 1440) ∷ []
+
+-- the same at arity 8, where a block is 64 ms: the blocks 0, 0, 15, 7 and 15
+
+abbrev small : Setting
+small = chosen 8 1 64
+
+small-gets : List Answer
+small-gets =
+    Posted 0 0 ∷ RanLowest 1 0 2 ∷ RanLowest 0 0 2 ∷ RanLowest 1 0 17 ∷ Posted 1 1 ∷ RanLowest 1 0 9 ∷ RanLowest 1 0 17
     ∷ Committed 4 (entries (at 0 1 posted 0 Read ∷ at 30 0 1 1 (Frame 1 0) ∷ at 500 1 posted 1 (Level 5000) ∷ at 1000 1 1 0 Read ∷ []) ++ zeros 1440) ∷ []
 
 -- ---- a level at 4900, in block 19: the ring ends at 4096 and, from the commit time 1001 on, at 4864; 1024 is in block 4, whose ring has it last
@@ -62,8 +72,8 @@ found-gets =
 -- ---- what the rules give
 
 lists : Gives plan narrow calls bench-gets × Gives plan narrow late late-gets × Gives plan narrow later later-gets
-    × Gives plan narrow covered covered-gets × Gives plan narrow found found-gets
-unfolding plan station calls bench-gets late late-gets later later-gets covered covered-gets found found-gets
+    × Gives plan narrow covered covered-gets × Gives plan narrow found found-gets × Gives plan small calls small-gets
+unfolding plan station calls bench-gets small-gets late late-gets later later-gets covered covered-gets found found-gets
     allIn parentOut numberOut nth pairs zeros
     settle postStep runStep stationStep lowestOf counting countingStep lowestWords commitStep answerTo answersTo
     runs beyond orThis latest removeEach undoFound undoWithin undoFrom removing adding addAll runLeast
@@ -77,4 +87,5 @@ lists = (
   computed plan narrow later later-gets (in-range plan tt tt tt) refl,
   computed plan narrow covered covered-gets (in-range plan tt tt tt) refl,
   computed plan narrow found found-gets (in-range plan tt tt tt) refl,
+  computed plan small calls small-gets (in-range plan tt tt tt) refl,
 )
