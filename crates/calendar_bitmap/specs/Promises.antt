@@ -19,8 +19,8 @@ pub record FirstFrom (a x i r : ℕ) : Type 0 where
   pub set : r < a → child a x r ≡ 1
   pub before : (k : ℕ) → i ≤ k → k < r → child a x k ≡ 0
 
--- r is x with its child i set, or clear, and no other child changed
+-- r is x with its child i set, or clear, and no other child changed; it fits where x does
 pub record WithChild (a x i : ℕ) (on : Bool) (r : ℕ) : Type 0 where
-  pub fits : r < 2 ^ a
+  pub fits : x < 2 ^ a → r < 2 ^ a
   pub this : child a r i ≡ cond on 1 0
   pub others : (k : ℕ) → k < a → (k ≡ i → ⊥) → child a r k ≡ child a x k
