@@ -1,124 +1,133 @@
 -- An absent station is put into a bucket: what the stores of `insert` leave.
-use mathlib.Core.Path.{_≡_, sym, ap, _∙_, subst}
+use mathlib.Core.Path.{_≡_, refl, sym, ap, _∙_, subst}
 use mathlib.Core.Logic.{_⊎_, inl, inr}
 use mathlib.Core.List.{List}
 use Prim.Native.Nat.{ℕ, suc, _+_, _-_, _*_, _≤_, _<_}
 use native.Mathlib.Omega.{arith}
 use lib.ListN.{length}
+use borrow.Author.Tests.{lt-ltb, le-ltb}
 use Rattle.refusal.specs.Tests.{horizon}
-use Rattle.calendar_buckets.specs.Cells.{wordAt, halfAt, putWord, putHalf}
-use Rattle.calendar_buckets.specs.Table.{dueOf, bucketOf, nextPlace, prevPlace, bucketHead, Table}
-use Rattle.calendar_buckets.specs.Promises.{Kept, Gone, Placed}
-use Rattle.calendar_buckets.specs.Steps.{Place, Joined, Raised}
-use Rattle.calendar_buckets.proofs.CellLaws.{length-word, length-half, word-same, word-other, word-half, half-same, half-other, half-word}
-use Rattle.calendar_buckets.proofs.Places.{list-station, list-head}
+use Rattle.calendar_shapes.specs.Rule.{Sizes}
+use Rattle.calendar_cells.specs.Cells.{wordAt, backAt, linkAt, putWord}
+use Rattle.calendar_cells.specs.Table.{dueOf, bucketOf, nextPlace, prevPlace, nodeWord, rootOf, bucketHead, bytesFor, Table}
+use Rattle.calendar_buckets.specs.Promises.{bucketFor, Kept, Gone, Placed}
+use Rattle.calendar_lists.specs.Promises.{Place, Joined}
+use Rattle.calendar_bits.specs.Promises.{Raised}
+use Rattle.calendar_cells.proofs.CellLaws.{length-word, word-same, word-other, back-word, link-word}
+use Rattle.calendar_cells.proofs.DueLaws.{due-same, bucket-same, due-set, bucket-set}
+use Rattle.calendar_cells.proofs.Places.{list-station, list-head}
 use Rattle.words.proofs.Cases.{lt-or}
-use Rattle.calendar_buckets.proofs.ListIn.{lists-in}
-use Rattle.calendar_buckets.proofs.Heads.{head-some}
-use Rattle.calendar_buckets.proofs.Changes.{next-most, tree-same, changed}
+use Rattle.calendar_lists.proofs.ListIn.{lists-in}
+use Rattle.calendar_cells.proofs.Heads.{head-some}
+use Rattle.calendar_cells.proofs.TableLaws.{table-sizes, next-most, tree-same}
+use Rattle.calendar_buckets.proofs.Changes.{changed}
 
 module _
-    (s d p n list : ℕ) (xs ys zs us vs ws : List ℕ) (ls : s < 256)
-    (ey : ys ≡ putWord (8 + s) d xs) (ez : zs ≡ putHalf (4865 + s) list ys) (J : Joined s n zs us) (K : Joined p (suc s) us vs) (R : Raised list vs ws)
+    (a s d p n list : ℕ) (xs ys us vs ws : List ℕ) (ls : s < 256)
+    (ey : ys ≡ putWord (8 + s) (list * 2199023255552 + d) xs) (J : Joined s n ys us) (K : Joined p (suc s) us vs) (R : Raised a list vs ws)
   where
+    word-y : (i : ℕ) → (i ≡ 8 + s → ⊥) → wordAt i ys ≡ wordAt i xs
+    word-y i ne = ap (wordAt i) ey ∙ word-other (8 + s) (list * 2199023255552 + d) xs i ne
+
     in-size : length ws ≡ length xs
-    in-size = R .size ∙ K .size ∙ J .size ∙ ap length ez ∙ length-half (4865 + s) list ys ∙ ap length ey ∙ length-word (8 + s) d xs
+    in-size = R .size ∙ K .size ∙ J .size ∙ ap length ey ∙ length-word (8 + s) (list * 2199023255552 + d) xs
 
     in-word : (i : ℕ) → i < 264 → (i ≡ 8 + s → ⊥) → wordAt i ws ≡ wordAt i xs
-    in-word i l ne =
-        R .words i l ∙ K .words i l ∙ J .words i l ∙ ap (wordAt i) ez ∙ word-half (4865 + s) list ys i l ∙ ap (wordAt i) ey ∙ word-other (8 + s) d xs i ne
+    in-word i l ne = R .words i l ∙ K .words i (omega arith) ∙ J .words i (omega arith) ∙ word-y i ne
 
     pub put-kept : Kept xs ws
     put-kept = record { size = in-size; words = λ i l. in-word i (omega arith) (omega arith) }
 
     module _
-        (T : Table xs) (ed : dueOf xs s ≡ 0) (pd : 0 < d) (md : d ≤ suc horizon) (ll : list < 4352) (lo : 4096 ≤ list → list ≡ 4096 + s)
-        (lp : p < 4608) (P : Place xs list (d * 256 + s) p) (en : n ≡ nextPlace xs p)
+        (T : Table a xs) (ed : dueOf xs s ≡ 0) (pd : 0 < d) (md : d ≤ suc horizon) (ll : list < 16 * (a * a) + 256)
+        (lo : 16 * (a * a) ≤ list → list ≡ 16 * (a * a) + s) (P : Place a xs list (d * 256 + s) p) (en : n ≡ nextPlace xs p)
       where
-        long-y : 12932 ≤ length ys
+        Z : Sizes a
+        Z = table-sizes T
+
+        lp : p < 512 + 16 * (a * a)
+        lp = P .within
+
+        lp′ : p < 66048
+        lp′ = omega (arith, P .within, Z .most)
+
+        long-y : bytesFor a ≤ length ys
         long-y = rw (ey, length-word) (T .long)
 
-        long-z : 12932 ≤ length zs
-        long-z = rw (ez, length-half) long-y
+        long-u : bytesFor a ≤ length us
+        long-u = rw (J .size) long-y
 
-        long-u : 12932 ≤ length us
-        long-u = rw (J .size) long-z
-
-        long-v : 12932 ≤ length vs
+        long-v : bytesFor a ≤ length vs
         long-v = rw (K .size) long-u
 
         ln : n ≤ 256
-        ln = rw en (next-most xs T p lp (P .live))
+        ln = rw en (next-most a xs T p lp (P .live))
 
         -- the station is not the place before it
         apart : s ≡ p → ⊥
         apart e = P .live (subst (λ (k : ℕ). k < 256) e ls) (ap (dueOf xs) (sym e) ∙ ed)
 
+        link-y : (k : ℕ) → k < 512 + 16 * (a * a) → linkAt k ys ≡ linkAt k xs
+        link-y k l = ap (linkAt k) ey ∙ link-word (8 + s) (list * 2199023255552 + d) xs (a * a) k (inl (omega arith)) l
+
+        back-y : (k : ℕ) → k < 257 → backAt k ys ≡ backAt k xs
+        back-y k l = ap (backAt k) ey ∙ back-word (8 + s) (list * 2199023255552 + d) xs k (inl (omega arith)) l
+
+        word-s : wordAt (8 + s) ws ≡ list * 2199023255552 + d
+        word-s =
+            R .words (8 + s) (omega arith) ∙ K .words (8 + s) (omega arith) ∙ J .words (8 + s) (omega arith) ∙ ap (wordAt (8 + s)) ey
+            ∙ word-same (8 + s) (list * 2199023255552 + d) xs (omega (arith, T .long)) (omega (arith, Z .most))
+
         in-this : dueOf ws s ≡ d
-        in-this =
-            R .words (8 + s) (omega arith) ∙ K .words (8 + s) (omega arith) ∙ J .words (8 + s) (omega arith) ∙ ap (wordAt (8 + s)) ez
-            ∙ word-half (4865 + s) list ys (8 + s) (omega arith) ∙ ap (wordAt (8 + s)) ey ∙ word-same (8 + s) d xs (omega (arith, T .long)) (omega arith)
+        in-this = due-set ws s d list (omega arith) word-s
 
         in-due : (x : ℕ) → x < 256 → (x ≡ s → ⊥) → dueOf ws x ≡ dueOf xs x
-        in-due x l ne = in-word (8 + x) (omega arith) (omega arith)
+        in-due x l ne = due-same xs ws x (in-word (8 + x) (omega arith) (omega arith))
 
-        half-z : (k : ℕ) → (k ≡ 4865 + s → ⊥) → halfAt k zs ≡ halfAt k xs
-        half-z k ne = ap (halfAt k) ez ∙ half-other (4865 + s) list ys k ne ∙ ap (halfAt k) ey ∙ half-word (8 + s) d xs k (omega arith)
+        in-bucket-s : bucketOf ws s ≡ list
+        in-bucket-s = bucket-set ws s d list (omega arith) word-s
 
-        -- a half word that neither join touches
-        in-rest : (k : ℕ) → (k ≡ p → ⊥) → (k ≡ s → ⊥) → (k ≡ 4609 + s → ⊥) → (k ≡ 4608 + n → ⊥) → halfAt k vs ≡ halfAt k zs
-        in-rest k a b c f = K .others k a (λ e. c (omega arith)) ∙ J .others k b f
+        in-bucket : (x : ℕ) → x < 256 → (x ≡ s → ⊥) → bucketOf ws x ≡ bucketOf xs x
+        in-bucket x l ne = bucket-same xs ws x (in-word (8 + x) (omega arith) (omega arith))
+
+        -- a link that neither join touches
+        in-rest : (k : ℕ) → k < 512 + 16 * (a * a) → (k ≡ p → ⊥) → (k ≡ s → ⊥) → linkAt k vs ≡ linkAt k xs
+        in-rest k l b c = K .links k b ∙ J .links k c ∙ link-y k l
 
         in-next-p : nextPlace ws p ≡ suc s
-        in-next-p = R .links p (omega arith) ∙ K .next long-u lp (omega arith)
+        in-next-p = R .links ll p lp ∙ K .next (let l = lp in omega (arith, long-u)) lp′ (omega arith)
 
         in-next-s : nextPlace ws s ≡ nextPlace xs p
-        in-next-s =
-            R .links s (omega arith) ∙ K .others s apart (omega arith) ∙ J .next long-z (omega arith) ln ∙ en
+        in-next-s = R .links ll s (omega arith) ∙ K .links s apart ∙ J .next (omega (arith, long-y)) (omega arith) ln ∙ en
 
-        in-next-o : (q : ℕ) → q < 4608 → (q ≡ s → ⊥) → (q ≡ p → ⊥) → nextPlace ws q ≡ nextPlace xs q
-        in-next-o q l a b = R .links q (omega arith) ∙ in-rest q b a (omega arith) (omega arith) ∙ half-z q (omega arith)
+        in-next-o : (q : ℕ) → q < 512 + 16 * (a * a) → (q ≡ s → ⊥) → (q ≡ p → ⊥) → nextPlace ws q ≡ nextPlace xs q
+        in-next-o q l b c = R .links ll q l ∙ in-rest q l c b
 
         in-prev-s : prevPlace ws s ≡ p
-        in-prev-s =
-            let k : 4609 + s ≡ 4608 + suc s = omega arith in
-            R .links (4609 + s) (omega arith) ∙ ap (λ (y : ℕ). halfAt y vs) k ∙ K .prev long-u lp (omega arith)
+        in-prev-s = R .backs ll (suc s) (omega arith) ∙ K .prev (omega (arith, long-u)) lp′ (omega arith)
 
         -- the station after p was there before
-        in-after : (m : ℕ) → nextPlace xs p ≡ suc m → m ≡ s → ⊥
-        in-after m e z = T .lists .front p lp (P .live) m e .live (ap (dueOf xs) z ∙ ed)
+        in-beyond : (m : ℕ) → nextPlace xs p ≡ suc m → m ≡ s → ⊥
+        in-beyond m e z = T .lists .front p lp (P .live) m e .live (ap (dueOf xs) z ∙ ed)
 
         in-prev-n : (m : ℕ) → m < 256 → nextPlace xs p ≡ suc m → prevPlace ws m ≡ s
         in-prev-n m l e =
-            let ne : m ≡ s → ⊥ = in-after m e in
-            let k : 4609 + m ≡ 4608 + n = omega (arith, en, e) in
-            R .links (4609 + m) (omega arith) ∙ K .others (4609 + m) (omega arith) (λ z. ne (omega arith)) ∙ ap (λ (y : ℕ). halfAt y us) k
-            ∙ J .prev long-z (omega arith) ln
+            let ne : m ≡ s → ⊥ = in-beyond m e in
+            R .backs ll (suc m) (omega arith) ∙ K .backs (suc m) (omega arith) (λ z. ne (omega arith)) ∙ ap (λ (y : ℕ). backAt y us) (sym e ∙ sym en)
+            ∙ J .prev (omega (arith, long-y)) (omega arith) ln
 
         in-prev-o : (m : ℕ) → m < 256 → (m ≡ s → ⊥) → (nextPlace xs p ≡ suc m → ⊥) → prevPlace ws m ≡ prevPlace xs m
-        in-prev-o m l a b =
-            R .links (4609 + m) (omega arith)
-            ∙ in-rest (4609 + m) (omega arith) (omega arith) (λ e. a (omega arith)) (λ e. let k : n ≡ suc m = omega arith in b (sym en ∙ k))
-            ∙ half-z (4609 + m) (omega arith)
+        in-prev-o m l b c =
+            R .backs ll (suc m) (omega arith) ∙ K .backs (suc m) (omega arith) (λ e. b (omega arith))
+            ∙ J .backs (suc m) (omega arith) (λ e. c (sym en ∙ sym e)) ∙ back-y (suc m) (omega arith)
 
-        in-bucket-k : (k : ℕ) → 4865 ≤ k → k < 5121 → halfAt k ws ≡ halfAt k zs
-        in-bucket-k k a b = R .links k b ∙ in-rest k (omega arith) (omega arith) (omega arith) (omega (arith, ln))
-
-        in-bucket-s : bucketOf ws s ≡ list
-        in-bucket-s =
-            in-bucket-k (4865 + s) (omega arith) (omega arith) ∙ ap (halfAt (4865 + s)) ez
-            ∙ half-same (4865 + s) list ys (omega arith) long-y (omega arith)
-
-        in-bucket : (x : ℕ) → x < 256 → (x ≡ s → ⊥) → bucketOf ws x ≡ bucketOf xs x
-        in-bucket x l ne = in-bucket-k (4865 + x) (omega arith) (omega arith) ∙ half-z (4865 + x) (omega arith)
-
-        in-head : (l : ℕ) → l < 4352 → (l ≡ list → ⊥) → bucketHead vs l ≡ bucketHead xs l
-        in-head l h ne = in-rest (256 + l) hit (omega arith) (omega arith) (omega arith) ∙ half-z (256 + l) (omega arith)
+        in-head : (l : ℕ) → l < 16 * (a * a) + 256 → (l ≡ list → ⊥) → bucketHead vs l ≡ bucketHead xs l
+        in-head l h ne = in-rest (256 + l) (omega arith) hit (omega arith)
           where
             hit : 256 + l ≡ p → ⊥
             hit e =
                 let q : 256 ≤ p = omega arith in
-                let a : p - 256 ≡ list = sym (list-head (bucketOf xs) p q) ∙ P .list-is in
+                let b : p - 256 ≡ list = sym (list-head (bucketOf xs) p q) ∙ P .list-is in
                 ne (omega arith)
 
         -- the bucket's head leads to the station, or to what it led to before
@@ -126,36 +135,39 @@ module _
         in-filled z = go (lt-or p 256)
           where
             same : p < 256 → bucketHead vs list ≡ bucketHead xs list
-            same h = in-rest (256 + list) (omega arith) (omega arith) (omega arith) (omega arith) ∙ half-z (256 + list) (omega arith)
+            same h = in-rest (256 + list) (omega arith) (omega arith) (omega arith)
 
             go : (p < 256) ⊎ (256 ≤ p) → ⊥
             go (inl h) =
                 let e : bucketOf xs p ≡ list = sym (list-station (bucketOf xs) p h) ∙ P .list-is in
-                head-some xs T p h (P .live h) (ap (bucketHead xs) e ∙ sym (same h) ∙ z)
+                head-some a xs T p h (P .live h) (ap (bucketHead xs) e ∙ sym (same h) ∙ z)
             go (inr h) =
-                let a : p - 256 ≡ list = sym (list-head (bucketOf xs) p h) ∙ P .list-is in
+                let b : p - 256 ≡ list = sym (list-head (bucketOf xs) p h) ∙ P .list-is in
                 let e : 256 + list ≡ p = omega arith in
-                let n : suc s ≡ 0 = sym (K .next long-u lp (omega arith)) ∙ ap (nextPlace vs) (sym e) ∙ z in
+                let n : suc s ≡ 0 = sym (K .next (let l = lp in omega (arith, long-u)) lp′ (omega arith)) ∙ ap (nextPlace vs) (sym e) ∙ z in
                 omega arith
 
-        bits : (k : ℕ) → 5121 ≤ k → halfAt k vs ≡ halfAt k xs
-        bits k h = in-rest k (omega arith) (omega arith) (omega arith) (omega (arith, ln)) ∙ half-z k (omega arith)
+        nodes-v : (j : ℕ) → nodeWord a vs j ≡ nodeWord a xs j
+        nodes-v j = K .high (a * a) lp j ∙ J .high (a * a) (omega arith) j ∙ word-y (541 + 4 * (a * a) + j) (omega arith)
 
-        pub put-in : Placed s d list xs ws
+        roots-v : (r : ℕ) → r < 20 → rootOf vs r ≡ rootOf xs r
+        roots-v r l = K .words (264 + r) (omega arith) ∙ J .words (264 + r) (omega arith) ∙ word-y (264 + r) (omega arith)
+
+        pub put-in : Placed a s d list xs ws
         put-in = record {
           changed =
-              changed xs ws T s d in-size in-this in-due in-bucket md
-              (λ _. (rw in-bucket-s ll, λ h. in-bucket-s ∙ lo (subst (λ (y : ℕ). 4096 ≤ y) in-bucket-s h)))
-              (lists-in 4608 (omega arith) (bucketOf xs) (dueOf xs) (nextPlace xs) (prevPlace xs) (bucketOf ws) (dueOf ws) (nextPlace ws) (prevPlace ws) s d p list
-              ls ed (λ z. omega arith) lp (P .live) (P .list-is) (P .below) (P .beyond) in-bucket-s in-bucket
+              changed a xs ws T s d in-size (in-word 7 (omega arith) (omega arith)) in-this in-due in-bucket md
+              (λ _. (rw in-bucket-s ll, λ h. in-bucket-s ∙ lo (subst (λ (y : ℕ). 16 * (a * a) ≤ y) in-bucket-s h)))
+              (lists-in (512 + 16 * (a * a)) (omega arith) (bucketOf xs) (dueOf xs) (nextPlace xs) (prevPlace xs) (bucketOf ws) (dueOf ws) (nextPlace ws) (prevPlace ws)
+              s d p list ls ed (λ z. omega arith) lp (P .live) (P .list-is) (P .below) (P .beyond) in-bucket-s in-bucket
               in-this in-due in-next-s in-next-p in-next-o in-prev-s in-prev-n in-prev-o (T .lists))
-              (R .tree long-v ll (bucketHead xs) in-filled in-head (tree-same (bucketHead xs) xs vs bits (T .tree)));
+              (R .tree long-v ll (bucketHead xs) in-filled in-head (tree-same a (bucketHead xs) (bucketHead xs) xs vs Z (λ l h. refl) nodes-v roots-v (T .tree)));
           due-is = in-this;
           bucket-is = in-bucket-s;
         }
 
 -- a station that was taken out first
-pub put-after : {s d l : ℕ} {xs ys zs : List ℕ} → Gone s xs ys → Placed s d l ys zs → Placed s d l xs zs
+pub put-after : {a s d l : ℕ} {xs ys zs : List ℕ} → Gone a s xs ys → Placed a s d l ys zs → Placed a s d l xs zs
 put-after G P = record {
   changed = record {
     table = P .changed .table;
@@ -167,9 +179,19 @@ put-after G P = record {
 }
 
 -- a station and a due number in range are not out of range, nor is a long buffer short
-pub put-nothing : (s d n : ℕ) → s < 256 → (d ≡ 0 → ⊥) → d ≤ suc horizon → 12932 ≤ n
-    → (256 ≤ s) ⊎ ((d ≡ 0) ⊎ ((suc horizon < d) ⊎ (n < 12932))) → ⊥
+pub put-nothing : (s d n : ℕ) → s < 256 → (d ≡ 0 → ⊥) → d ≤ suc horizon → 7656 ≤ n
+    → (256 ≤ s) ⊎ ((d ≡ 0) ⊎ ((suc horizon < d) ⊎ (n < 7656))) → ⊥
 put-nothing s d n a b c e (inl h) = omega arith
 put-nothing s d n a b c e (inr (inl h)) = b h
 put-nothing s d n a b c e (inr (inr (inl h))) = omega arith
 put-nothing s d n a b c e (inr (inr (inr h))) = omega arith
+
+-- ---- the bucket of a leaf
+
+pub in-leaf : (a leaf s : ℕ) → leaf < 16 * (a * a) → leaf ≡ bucketFor a leaf s
+unfolding bucketFor
+in-leaf a leaf s l = rw (lt-ltb leaf (16 * (a * a)) l)
+
+pub in-overflow : (a leaf s r : ℕ) → 16 * (a * a) ≤ leaf → r ≡ 16 * (a * a) + s → r ≡ bucketFor a leaf s
+unfolding bucketFor
+in-overflow a leaf s r l e = e ∙ rw (le-ltb leaf (16 * (a * a)) l)

@@ -1,6 +1,1 @@
-pub mod Cells
-pub mod Lists
-pub mod Tree
-pub mod Table
 pub mod Promises
-pub mod Steps
