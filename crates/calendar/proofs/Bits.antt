@@ -3,100 +3,112 @@ use mathlib.Core.Path.{_≡_, refl, sym, ap, ap₂, _∙_, subst}
 use mathlib.Core.Logic.{_↔_}
 use mathlib.Core.Option.{none, some}
 use mathlib.Core.List.{List}
-use Prim.Native.Nat.{ℕ, suc, _+_, _-_, _*_, _/_, _%_, _<_}
-use native.Mathlib.Nat.{div-div-eq-div-mul}
+use Prim.Native.Nat.{ℕ, suc, _+_, _-_, _*_, _/_, _%_, _^_, _<_}
+use native.Mathlib.Nat.{mul-pos, mul-assoc, add-mul, mod-lt, div-add-mod'}
 use native.Mathlib.Omega.{arith}
+use lib.Arith.{digits-lt, digits-div, digits-mod}
 use lib.ListN.{getD}
 use lib.Count.{leadingZeros}
-use Rattle.words.proofs.Laws.{load-lt}
 use Rattle.calendar_bitmap.specs.Child.{child}
 use Rattle.calendar_bitmap.proofs.ChildLaws.{leading-first}
-use Rattle.calendar_buckets.specs.Cells.{halfAt}
-use Rattle.calendar_buckets.specs.Table.{dueOf, bucketOf, nodeWord, rootOf, bucketHead, Due, Table}
-use Rattle.calendar_buckets.proofs.TreeLaws.{set-above, some-above, some-below}
-use Rattle.calendar_buckets.proofs.Heads.{head-station, head-some}
+use Rattle.calendar_cells.specs.Table.{arityOf, dueOf, bucketOf, nodeWord, rootOf, bucketHead, Due, Table}
+use Rattle.calendar_cells.proofs.TreeLaws.{set-above, some-above, some-below}
+use Rattle.calendar_cells.proofs.Heads.{head-station, head-some}
 use Rattle.calendar_ring.specs.Ring.{slotOfTime, leafIn, ringEnd}
-use Rattle.calendar.specs.Rules.{Calendar}
-use Rattle.calendar.specs.Bytes.{widthOf, limitOf, Sound, stateOf}
-use Rattle.calendar.proofs.States.{time-at, time-of}
-use Rattle.calendar.proofs.Order.{in-ring, home-in}
+use Rattle.calendar_header.specs.Rules.{Calendar}
+use Rattle.calendar_header.specs.Bytes.{widthOf, limitOf, Sound, stateOf}
+use Rattle.calendar_header.proofs.Leaves.{ringLeaf}
+use Rattle.calendar_header.proofs.Homes.{arity-pos, home-in, in-ring}
+use Rattle.calendar_header.proofs.States.{time-at, time-of}
 
 -- a station is registered at a time of the ring in slot r, in a leaf of the block of which P holds
 pub record RegisteredIn (q : Calendar) (r : ℕ) (P : ℕ → Type 0) : Type 0 where
   pub station : ℕ
   pub time : ℕ
   pub has : getD (q .times) station none ≡ some time
-  pub ring : time < ringEnd 16 (q .width) (q .floor)
-  pub slot : slotOfTime 16 (q .width) time ≡ r
-  pub leaf : P (leafIn 16 (q .width) time)
+  pub ring : time < ringEnd (q .arity) (q .width) (q .floor)
+  pub slot : slotOfTime (q .arity) (q .width) time ≡ r
+  pub leaf : P (leafIn (q .arity) (q .width) time)
+
+-- a word of a bits that is not 0 has a child that is set
+pub some-set : (a x : ℕ) → x < 2 ^ a → (x ≡ 0 → ⊥) → (k : ℕ) × (k < a) × (child a x k ≡ 1)
+some-set a x l nz = let F = leading-first a x l in (leadingZeros a x, F .some nz, F .set (F .some nz))
 
 -- ---- the bits over the heads
 
--- each number of the list is a byte, as in any buffer
-abbrev pub AllBytes : List ℕ → Type 0
-AllBytes xs = (j : ℕ) → getD xs j 0 < 256
+-- leaf k of node i of slot r
+abbrev leafUnder : ℕ → ℕ → ℕ → ℕ → ℕ
+leafUnder a r i k = (r * a + i) * a + k
 
-pub half-lt : (k : ℕ) (xs : List ℕ) → AllBytes xs → halfAt k xs < 65536
-unfolding halfAt
-half-lt k xs b = load-lt 2 (2112 + 2 * k) xs b
+module _ (a r i : ℕ) (lr : r < 16) (li : i < a) where
+  node-lt : r * a + i < 16 * a
+  node-lt = digits-lt lr li
 
-module _ (xs : List ℕ) (T : Table xs) (r i : ℕ) (lr : r < 16) (li : i < 16) where
-  -- a node that is not 0 has a child that is set
-  some-child : AllBytes xs → (nodeWord xs (r * 16 + i) ≡ 0 → ⊥) → (k : ℕ) × (k < 16) × (child 16 (nodeWord xs (r * 16 + i)) k ≡ 1)
-  some-child b nz =
-      let F = leading-first 16 (nodeWord xs (r * 16 + i)) (half-lt (5121 + (r * 16 + i)) xs b) in
-      (leadingZeros 16 (nodeWord xs (r * 16 + i)), F .some nz, F .set (F .some nz))
+  node-within : r * a + i < 16 * a + 32
+  node-within = omega (arith, node-lt)
 
-  node-head : (k : ℕ) → k < 16 → child 16 (nodeWord xs (r * 16 + i)) k ≡ 1 → bucketHead xs ((r * 16 + i) * 16 + k) ≡ 0 → ⊥
-  node-head k lk e =
-      let d : ((r * 16 + i) * 16 + k) / 16 ≡ r * 16 + i = omega arith in
-      let m : ((r * 16 + i) * 16 + k) % 16 ≡ k = omega arith in
-      some-below 16 4352 (nodeWord xs) (bucketHead xs) ((r * 16 + i) * 16 + k) (T .tree .leaves) (omega arith) (ap₂ (λ (x y : ℕ). child 16 (nodeWord xs x) y) d m ∙ e)
+  leaf-lt : (k : ℕ) → k < a → leafUnder a r i k < 16 * (a * a)
+  leaf-lt k lk = subst (λ (y : ℕ). leafUnder a r i k < y) (mul-assoc 16 a a) (digits-lt node-lt lk)
 
-  head-node : (k : ℕ) → k < 16 → (bucketHead xs ((r * 16 + i) * 16 + k) ≡ 0 → ⊥) → child 16 (nodeWord xs (r * 16 + i)) k ≡ 1
-  head-node k lk nz =
-      let d : ((r * 16 + i) * 16 + k) / 16 ≡ r * 16 + i = omega arith in
-      let m : ((r * 16 + i) * 16 + k) % 16 ≡ k = omega arith in
-      ap₂ (λ (x y : ℕ). child 16 (nodeWord xs x) y) (sym d) (sym m)
-      ∙ set-above 16 4352 (nodeWord xs) (bucketHead xs) ((r * 16 + i) * 16 + k) (T .tree .leaves) (omega arith) nz
+  leaf-within : (k : ℕ) → k < a → leafUnder a r i k < 16 * (a * a) + 256
+  leaf-within k lk = omega (arith, leaf-lt k lk)
 
-  root-node : child 16 (rootOf xs r) i ≡ 1 → nodeWord xs (r * 16 + i) ≡ 0 → ⊥
-  root-node e =
-      let d : (r * 16 + i) / 16 ≡ r = omega arith in
-      let m : (r * 16 + i) % 16 ≡ i = omega arith in
-      some-below 16 272 (rootOf xs) (nodeWord xs) (r * 16 + i) (T .tree .nodes) (omega arith) (ap₂ (λ (x y : ℕ). child 16 (rootOf xs x) y) d m ∙ e)
+  -- a block's leaves are those of its nodes
+  leaf-at : (k : ℕ) → leafUnder a r i k ≡ r * (a * a) + (i * a + k)
+  leaf-at k = omega (arith, add-mul (r * a) i a, mul-assoc r a a)
 
-  head-root : (k : ℕ) → k < 16 → (bucketHead xs ((r * 16 + i) * 16 + k) ≡ 0 → ⊥) → child 16 (rootOf xs r) i ≡ 1
-  head-root k lk nz =
-      let d : ((r * 16 + i) * 16 + k) / 16 ≡ r * 16 + i = omega arith in
-      let f : (r * 16 + i) / 16 ≡ r = omega arith in
-      let m : (r * 16 + i) % 16 ≡ i = omega arith in
-      ap₂ (λ (x y : ℕ). child 16 (rootOf xs x) y) (sym f) (sym m)
-      ∙ set-above 16 272 (rootOf xs) (nodeWord xs) (r * 16 + i) (T .tree .nodes) (omega arith)
-      (λ z. some-above 16 4352 (nodeWord xs) (bucketHead xs) ((r * 16 + i) * 16 + k) (T .tree .leaves) (omega arith) nz (ap (nodeWord xs) d ∙ z))
+  module _ (xs : List ℕ) (T : Table a xs) where
+    some-child : (nodeWord a xs (r * a + i) ≡ 0 → ⊥) → (k : ℕ) × (k < a) × (child a (nodeWord a xs (r * a + i)) k ≡ 1)
+    some-child nz = some-set a (nodeWord a xs (r * a + i)) (T .tree .node-fits (r * a + i) node-within) nz
+
+    node-head : (k : ℕ) → k < a → child a (nodeWord a xs (r * a + i)) k ≡ 1 → bucketHead xs (leafUnder a r i k) ≡ 0 → ⊥
+    node-head k lk e =
+        some-below a (16 * (a * a) + 256) (nodeWord a xs) (bucketHead xs) (leafUnder a r i k) (T .tree .leaves) (leaf-within k lk)
+        (ap₂ (λ (x y : ℕ). child a (nodeWord a xs x) y) (digits-div (r * a + i) lk) (digits-mod (r * a + i) lk) ∙ e)
+
+    head-node : (k : ℕ) → k < a → (bucketHead xs (leafUnder a r i k) ≡ 0 → ⊥) → child a (nodeWord a xs (r * a + i)) k ≡ 1
+    head-node k lk nz =
+        sym (ap₂ (λ (x y : ℕ). child a (nodeWord a xs x) y) (digits-div (r * a + i) lk) (digits-mod (r * a + i) lk))
+        ∙ set-above a (16 * (a * a) + 256) (nodeWord a xs) (bucketHead xs) (leafUnder a r i k) (T .tree .leaves) (leaf-within k lk) nz
+
+    root-node : child a (rootOf xs r) i ≡ 1 → nodeWord a xs (r * a + i) ≡ 0 → ⊥
+    root-node e =
+        some-below a (16 * a + 32) (rootOf xs) (nodeWord a xs) (r * a + i) (T .tree .nodes) node-within
+        (ap₂ (λ (x y : ℕ). child a (rootOf xs x) y) (digits-div r li) (digits-mod r li) ∙ e)
+
+    head-root : (k : ℕ) → k < a → (bucketHead xs (leafUnder a r i k) ≡ 0 → ⊥) → child a (rootOf xs r) i ≡ 1
+    head-root k lk nz =
+        sym (ap₂ (λ (x y : ℕ). child a (rootOf xs x) y) (digits-div r li) (digits-mod r li))
+        ∙ set-above a (16 * a + 32) (rootOf xs) (nodeWord a xs) (r * a + i) (T .tree .nodes) node-within
+        (λ z. some-above a (16 * (a * a) + 256) (nodeWord a xs) (bucketHead xs) (leafUnder a r i k) (T .tree .leaves) (leaf-within k lk) nz
+        (ap (nodeWord a xs) (digits-div (r * a + i) lk) ∙ z))
 
 -- ---- the bits over the times
 
--- a number of leaf widths is its block's slot and its leaf there
-digits : (w t r c : ℕ) → c < 256 → r < 16 → t / w % 4096 ≡ r * 256 + c → (slotOfTime 16 w t ≡ r) × (leafIn 16 w t ≡ c)
-digits w t r c lc lr e = let d : t / w / 256 ≡ t / (w * 256) = div-div-eq-div-mul t w 256 in (omega arith, omega arith)
+-- a leaf of the ring is its block's slot and its place there
+digits : (a w t r c : ℕ) → 0 < a → c < a * a → ringLeaf a w t ≡ r * (a * a) + c → (slotOfTime a w t ≡ r) × (leafIn a w t ≡ c)
+digits a w t r c p lc e =
+    let l : leafIn a w t < a * a = mod-lt (t / w) (mul-pos p p) in (
+      sym (digits-div (slotOfTime a w t) l) ∙ ap (λ (y : ℕ). y / (a * a)) e ∙ digits-div r lc,
+      sym (digits-mod (slotOfTime a w t) l) ∙ ap (λ (y : ℕ). y % (a * a)) e ∙ digits-mod r lc,
+    )
 
-joined : (w t r c : ℕ) → slotOfTime 16 w t ≡ r → leafIn 16 w t ≡ c → t / w % 4096 ≡ r * 256 + c
-joined w t r c e f = let d : t / w / 256 ≡ t / (w * 256) = div-div-eq-div-mul t w 256 in omega arith
-
-module _ (xs : List ℕ) (S : Sound xs) (r i : ℕ) (lr : r < 16) (li : i < 16) where
+module _ (xs : List ℕ) (S : Sound xs) (r i : ℕ) (lr : r < 16) (li : i < arityOf xs) where
   -- a filled leaf has a station
-  filled-registered : (k : ℕ) → k < 16 → (P : ℕ → Type 0) → P (i * 16 + k) → (bucketHead xs ((r * 16 + i) * 16 + k) ≡ 0 → ⊥) → RegisteredIn (stateOf xs) r P
+  filled-registered : (k : ℕ) → k < arityOf xs → (P : ℕ → Type 0) → P (i * arityOf xs + k) → (bucketHead xs (leafUnder (arityOf xs) r i k) ≡ 0 → ⊥)
+      → RegisteredIn (stateOf xs) r P
   unfolding stateOf
   filled-registered k lk P p nz =
-      let l : ℕ = (r * 16 + i) * 16 + k in
-      let e : bucketHead xs ((r * 16 + i) * 16 + k) ≡ suc (bucketHead xs ((r * 16 + i) * 16 + k) - 1) = omega arith in
-      go (bucketHead xs ((r * 16 + i) * 16 + k) - 1) (head-station xs (S .table) ((r * 16 + i) * 16 + k) (bucketHead xs ((r * 16 + i) * 16 + k) - 1) (omega arith) e)
+      let e : bucketHead xs (leafUnder (arityOf xs) r i k) ≡ suc (bucketHead xs (leafUnder (arityOf xs) r i k) - 1) = omega arith in
+      go (bucketHead xs (leafUnder (arityOf xs) r i k) - 1)
+      (head-station (arityOf xs) xs (S .table) (leafUnder (arityOf xs) r i k) (bucketHead xs (leafUnder (arityOf xs) r i k) - 1)
+      (leaf-within (arityOf xs) r i lr li k lk) e)
     where
-      go : (h : ℕ) → (h < 256) × (Due xs h) × (bucketOf xs h ≡ (r * 16 + i) * 16 + k) → RegisteredIn (stateOf xs) r P
+      go : (h : ℕ) → (h < 256) × (Due xs h) × (bucketOf xs h ≡ leafUnder (arityOf xs) r i k) → RegisteredIn (stateOf xs) r P
       go h H =
-          let R = in-ring xs S h (H .0) (H .1) (omega (arith, H .2)) in
-          let D = digits (widthOf xs) (dueOf xs h - 1) r (i * 16 + k) (omega arith) lr (sym (R .1) ∙ H .2 ∙ omega arith) in
+          let R = in-ring xs S h (H .0) (H .1) (omega (arith, H .2, leaf-lt (arityOf xs) r i lr li k lk)) in
+          let D = digits (arityOf xs) (widthOf xs) (dueOf xs h - 1) r (i * arityOf xs + k) (arity-pos xs S) (digits-lt li lk)
+          (sym (R .1) ∙ H .2 ∙ leaf-at (arityOf xs) r i lr li k) in
           record {
             station = h;
             time = dueOf xs h - 1;
@@ -107,42 +119,45 @@ module _ (xs : List ℕ) (S : Sound xs) (r i : ℕ) (lr : r < 16) (li : i < 16) 
           }
 
   -- a registered station's leaf is filled
-  registered-filled : (k : ℕ) → (P : ℕ → Type 0) → (G : RegisteredIn (stateOf xs) r P) → leafIn 16 (stateOf xs .width) (G .time) ≡ i * 16 + k
-      → bucketHead xs ((r * 16 + i) * 16 + k) ≡ 0 → ⊥
+  registered-filled : (k : ℕ) → (P : ℕ → Type 0) → (G : RegisteredIn (stateOf xs) r P)
+      → leafIn (stateOf xs .arity) (stateOf xs .width) (G .time) ≡ i * arityOf xs + k → bucketHead xs (leafUnder (arityOf xs) r i k) ≡ 0 → ⊥
   unfolding stateOf
   registered-filled k P G e =
       let N = time-of xs S (G .station) (G .time) (G .has) in
       let t : dueOf xs (G .station) - 1 ≡ G .time = omega (arith, N .2) in
       let due : Due xs (G .station) = λ z. absurd (omega (arith, N .2)) in
-      let b : bucketOf xs (G .station) ≡ (r * 16 + i) * 16 + k =
+      let b : bucketOf xs (G .station) ≡ leafUnder (arityOf xs) r i k =
       S .homes (G .station) (N .1) due
-      ∙ home-in (widthOf xs) (limitOf xs) (dueOf xs (G .station) - 1) (G .station) (rw (t, S .header .limit-is) (G .ring))
-      ∙ ap (λ (y : ℕ). y / widthOf xs % 4096) t ∙ joined (widthOf xs) (G .time) r (i * 16 + k) (G .slot) e ∙ omega arith in
-      λ z. head-some xs (S .table) (G .station) (N .1) due (ap (bucketHead xs) b ∙ z)
+      ∙ home-in (arityOf xs) (widthOf xs) (limitOf xs) (dueOf xs (G .station) - 1) (G .station) (arity-pos xs S) (rw (t, S .header .limit-is) (G .ring))
+      ∙ ap (ringLeaf (arityOf xs) (widthOf xs)) t ∙ ap₂ (λ (x y : ℕ). x * (arityOf xs * arityOf xs) + y) (G .slot) e
+      ∙ sym (leaf-at (arityOf xs) r i lr li k) in
+      λ z. head-some (arityOf xs) xs (S .table) (G .station) (N .1) due (ap (bucketHead xs) b ∙ z)
 
-  -- a child of a root is a sixteenth of a block: set exactly when a station is registered there
-  pub root-bit : AllBytes xs → (child 16 (rootOf xs r) i ≡ 1) ↔ RegisteredIn (stateOf xs) r (λ c. c / 16 ≡ i)
-  root-bit b = (down, up)
+  -- a child of a root is a node's part of a block: set exactly when a station is registered there
+  pub root-bit : (child (arityOf xs) (rootOf xs r) i ≡ 1) ↔ RegisteredIn (stateOf xs) r (λ c. c / arityOf xs ≡ i)
+  unfolding stateOf
+  root-bit = (down, up)
     where
-      down : child 16 (rootOf xs r) i ≡ 1 → RegisteredIn (stateOf xs) r (λ c. c / 16 ≡ i)
+      down : child (arityOf xs) (rootOf xs r) i ≡ 1 → RegisteredIn (stateOf xs) r (λ c. c / arityOf xs ≡ i)
       down e =
-          let C = some-child xs (S .table) r i lr li b (root-node xs (S .table) r i lr li e) in
-          let q : (i * 16 + C .0) / 16 ≡ i = omega (arith, C .1) in
-          filled-registered (C .0) (C .1) (λ c. c / 16 ≡ i) q (node-head xs (S .table) r i lr li (C .0) (C .1) (C .2))
+          let C = some-child (arityOf xs) r i lr li xs (S .table) (root-node (arityOf xs) r i lr li xs (S .table) e) in
+          filled-registered (C .0) (C .1) (λ c. c / arityOf xs ≡ i) (digits-div i (C .1))
+          (node-head (arityOf xs) r i lr li xs (S .table) (C .0) (C .1) (C .2))
 
-      up : RegisteredIn (stateOf xs) r (λ c. c / 16 ≡ i) → child 16 (rootOf xs r) i ≡ 1
+      up : RegisteredIn (stateOf xs) r (λ c. c / arityOf xs ≡ i) → child (arityOf xs) (rootOf xs r) i ≡ 1
       up G =
-          let c : ℕ = leafIn 16 (stateOf xs .width) (G .time) in
-          let k : ℕ = c % 16 in
-          let e : c ≡ i * 16 + k = omega (arith, G .leaf) in
-          head-root xs (S .table) r i lr li k (omega arith) (registered-filled k (λ c. c / 16 ≡ i) G e)
+          let c : ℕ = leafIn (arityOf xs) (widthOf xs) (G .time) in
+          let k : ℕ = c % arityOf xs in
+          let e : c ≡ i * arityOf xs + k = sym (div-add-mod' c (arityOf xs)) ∙ ap (λ (y : ℕ). y * arityOf xs + k) (G .leaf) in
+          head-root (arityOf xs) r i lr li xs (S .table) k (mod-lt c (arity-pos xs S)) (registered-filled k (λ c. c / arityOf xs ≡ i) G e)
 
   -- a child of a node is a leaf: set exactly when a station is registered there
-  pub node-bit : (k : ℕ) → k < 16 → (child 16 (nodeWord xs (r * 16 + i)) k ≡ 1) ↔ RegisteredIn (stateOf xs) r (λ c. c ≡ i * 16 + k)
+  pub node-bit : (k : ℕ) → k < arityOf xs
+      → (child (arityOf xs) (nodeWord (arityOf xs) xs (r * arityOf xs + i)) k ≡ 1) ↔ RegisteredIn (stateOf xs) r (λ c. c ≡ i * arityOf xs + k)
   node-bit k lk = (down, up)
     where
-      down : child 16 (nodeWord xs (r * 16 + i)) k ≡ 1 → RegisteredIn (stateOf xs) r (λ c. c ≡ i * 16 + k)
-      down e = filled-registered k lk (λ c. c ≡ i * 16 + k) refl (node-head xs (S .table) r i lr li k lk e)
+      down : child (arityOf xs) (nodeWord (arityOf xs) xs (r * arityOf xs + i)) k ≡ 1 → RegisteredIn (stateOf xs) r (λ c. c ≡ i * arityOf xs + k)
+      down e = filled-registered k lk (λ c. c ≡ i * arityOf xs + k) refl (node-head (arityOf xs) r i lr li xs (S .table) k lk e)
 
-      up : RegisteredIn (stateOf xs) r (λ c. c ≡ i * 16 + k) → child 16 (nodeWord xs (r * 16 + i)) k ≡ 1
-      up G = head-node xs (S .table) r i lr li k lk (registered-filled k (λ c. c ≡ i * 16 + k) G (G .leaf))
+      up : RegisteredIn (stateOf xs) r (λ c. c ≡ i * arityOf xs + k) → child (arityOf xs) (nodeWord (arityOf xs) xs (r * arityOf xs + i)) k ≡ 1
+      up G = head-node (arityOf xs) r i lr li xs (S .table) k lk (registered-filled k (λ c. c ≡ i * arityOf xs + k) G (G .leaf))

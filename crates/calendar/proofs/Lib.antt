@@ -1,15 +1,3 @@
-pub mod Times
-pub mod Tests
-pub mod States
-pub mod Leaves
-pub mod Order
-pub mod Overflow
-pub mod Entering
-pub mod Naming
-pub mod Obeying
-pub mod Writing
-pub mod Floor
-pub mod Fetching
 pub mod Opening
 pub mod Bits
 pub mod RootWords

@@ -1,29 +1,35 @@
 -- Lowest and extract have one answer on the bytes that an opening and the calls after it left.
 use mathlib.Core.Path.{_≡_, refl, sym, ap, _∙_, subst}
-use mathlib.Core.Option.{Option, some}
+use mathlib.Core.Logic.{_⊎_, inl, inr}
+use mathlib.Core.Option.{Option}
 use mathlib.Core.List.{List, [], _∷_}
-use Prim.Native.Nat.{ℕ}
+use Prim.Native.Nat.{ℕ, _≤_, _<_}
 use native.Mathlib.Omega.{arith}
 use Rattle.refusal.specs.Tests.{says, judged}
 use Rattle.refusal.proofs.CheckingOrder.{not-both}
-use Rattle.calendar.specs.declared.Least.{Least}
-use Rattle.calendar.specs.declared.Least.the-variants.{At, Refused as NoLeast}
-use Rattle.calendar.specs.Rules.{Calendar, noneRegistered, LeastAt}
-use Rattle.calendar.specs.Promises.{leastVerdict, Names}
+use Rattle.calendar_answers.specs.declared.Least.{Least}
+use Rattle.calendar_answers.specs.declared.Least.the-variants.{At, Refused as NoLeast}
+use Rattle.calendar_header.specs.Rules.{Calendar, noneRegistered, LeastAt}
+use Rattle.calendar_header.specs.Promises.{leastVerdict, Names}
+use Rattle.calendar_header.proofs.Tests.{least-before}
 use Rattle.calendar.specs.Left.{Left}
 use Rattle.calendar.proofs.Calls.{left-names}
 
 one-least : {ts : List (Option ℕ)} {s t x u : ℕ} → LeastAt ts s t → LeastAt ts x u → (s ≡ x) × (t ≡ u)
-one-least {ts} {s} {t} {x} {u} l k =
-    let e : t ≡ u = omega (arith, l .least x u (k .has), k .least s t (l .has)) in
-    (omega (arith, l .first x (k .has ∙ ap some (sym e)), k .first s (l .has ∙ ap some e)), e)
+one-least {ts} {s} {t} {x} {u} l k = go (least-before l x u (k .has)) (least-before k s t (l .has))
+  where
+    go : (t < u) ⊎ ((t ≡ u) × (s ≤ x)) → (u < t) ⊎ ((u ≡ t) × (x ≤ s)) → (s ≡ x) × (t ≡ u)
+    go (inl a) (inl b) = absurd (omega arith)
+    go (inl a) (inr b) = absurd (omega (arith, b .0))
+    go (inr a) (inl b) = absurd (omega (arith, a .0))
+    go (inr a) (inr b) = (omega (arith, a .1, b .1), a .0)
 
 -- the answer without its count
 abbrev pub withoutCount : Least → Least
 withoutCount (At s t c) = At s t 0
 withoutCount (NoLeast e) = NoLeast e
 
--- two calendars with the same registered times name the same station and time, or both refuse, whatever leaf width and floor each has
+-- two calendars with the same registered times name the same station and time, or both refuse, whatever arity, leaf width and floor each has
 pub same-name : {xs ys : List ℕ} {p q : Calendar} {r m : Least} → Left xs p → Left ys q → p .times ≡ q .times → Names xs r → Names ys m
     → withoutCount r ≡ withoutCount m
 same-name {p = p} {q = q} {r = r} {m = m} L K e N M = go r m refl refl
@@ -40,7 +46,7 @@ same-name {p = p} {q = q} {r = r} {m = m} L K e N M = go r m refl refl
     go (NoLeast f) (At s t c) j k = absurd (not-both (ap leastVerdict k) (sym verdicts ∙ ap leastVerdict j))
     go (NoLeast f) (NoLeast g) j k = ap withoutCount j ∙ ap NoLeast (N .idle f j ∙ sym (M .idle g k)) ∙ sym (ap withoutCount k)
 
--- with the same leaf width and floor too the count is the same
+-- with the same arity, leaf width and floor too the count is the same
 pub one-name : {xs ys : List ℕ} {q : Calendar} {r m : Least} → Left xs q → Left ys q → Names xs r → Names ys m → r ≡ m
 one-name {q = q} {r = r} {m = m} L K N M = go r m refl refl (same-name L K refl N M)
   where

@@ -4,13 +4,13 @@ use mathlib.Core.List.{List}
 use Prim.Native.Nat.{ℕ}
 use Rattle.refusal.specs.declared.Refusal.{Refusal}
 use Rattle.refusal.specs.Tests.{Check}
-use Rattle.calendar.specs.declared.Answer.the-variants.{Done, Refused}
-use Rattle.calendar.specs.declared.Least.the-variants.{At, Refused as NoLeast}
-use Rattle.calendar.specs.Rules.{Calendar, openedCalendar, registerChecks, registeredAt, unregisterChecks, unregistered, advanceChecks, advanced}
-use Rattle.calendar.specs.Promises.{Obeys, Extracts, OpensCalendar}
+use Rattle.calendar_answers.specs.declared.Answer.the-variants.{Done, Refused}
+use Rattle.calendar_answers.specs.declared.Least.the-variants.{At, Refused as NoLeast}
+use Rattle.calendar_header.specs.Rules.{Calendar, openedCalendar, registerChecks, registeredAt, unregisterChecks, unregistered, advanceChecks, advanced}
+use Rattle.calendar_header.specs.Promises.{Obeys, Extracts, OpensCalendar}
 
 pub data Left : List ℕ → Calendar → Type 0 where
-  by-open : {xs ys : List ℕ} (n w : ℕ) → OpensCalendar n w xs Done ys → Left ys (openedCalendar n w)
+  by-open : {xs ys : List ℕ} (n a w : ℕ) → OpensCalendar n a w xs Done ys → Left ys (openedCalendar n a w)
   by-register : {xs ys : List ℕ} {q : Calendar} (s t : ℕ) → Left xs q → Obeys (λ p. registerChecks p s t) (λ p. registeredAt p s t) xs Done ys
       → Left ys (registeredAt q s t)
   by-unregister : {xs ys : List ℕ} {q : Calendar} (s : ℕ) → Left xs q → Obeys (λ p. unregisterChecks p s) (λ p. unregistered p s) xs Done ys
@@ -22,4 +22,4 @@ pub data Left : List ℕ → Calendar → Type 0 where
   by-refusal : {xs ys : List ℕ} {q : Calendar} (e : Refusal) (checks : Calendar → List Check) (after : Calendar → Calendar)
       → Left xs q → Obeys checks after xs (Refused e) ys → Left ys q
   by-none : {xs ys : List ℕ} {q : Calendar} (e : Refusal) → Left xs q → Extracts xs (NoLeast e) ys → Left ys q
-  by-no-open : {xs ys : List ℕ} {q : Calendar} (e : Refusal) (n w : ℕ) → Left xs q → OpensCalendar n w xs (Refused e) ys → Left ys q
+  by-no-open : {xs ys : List ℕ} {q : Calendar} (e : Refusal) (n a w : ℕ) → Left xs q → OpensCalendar n a w xs (Refused e) ys → Left ys q

@@ -1,12 +1,12 @@
-// Runs calls on calendars and writes a line for each: the call with its numbers, then its answer. tools/calendar.py writes the same lines from a reading of
+// Runs calls on calendars of the four shapes and writes a line for each: the call with its numbers, then its answer. tools/calendar.py writes the same lines from a reading of
 // the documents that shares nothing with the crates.
 ghost use mathlib.Core.Path.{_≡_};
 ghost use Prim.Native.Nat.{_-_, _≤_};
 ghost use lib.ListN.{length, take, drop};
-ghost use Rattle.calendar.specs.Rules.{registerChecks, registeredAt};
-ghost use Rattle.calendar.specs.Promises.{Obeys};
-use calendar::Answer;
-use calendar::Least;
+ghost use Rattle.calendar_header.specs.Rules.{registerChecks, registeredAt};
+ghost use Rattle.calendar_header.specs.Promises.{Obeys};
+use calendar_answers::Answer;
+use calendar_answers::Least;
 use libc::STDOUT_FILENO;
 use refusal::Refusal;
 use std::num::wrapping_add_u64;
@@ -52,12 +52,13 @@ fn tell_least(l: Least) {
     }
 }
 
-fn open(n: u64, width: u64, b: &mut [u8]) {
+fn open(n: u64, arity: u64, width: u64, b: &mut [u8]) {
     word(b"open");
     number(n);
+    number(arity);
     number(width);
     number(b.len() as u64);
-    tell(calendar::open(n, width, b));
+    tell(calendar::open(n, arity, width, b));
 }
 
 fn register(b: &mut [u8], station: u64, time: u64) {
@@ -93,21 +94,57 @@ fn advance(b: &mut [u8], floor: u64) {
 
 fn openings() {
     let mut b = [165u8; 32896];
-    open(2, 0, &mut b);
-    open(2, 1048577, &mut b);
-    open(0, 0, &mut b);
-    open(0, 64, &mut b);
-    open(257, 64, &mut b);
-    open(3, 64, &mut b);
-    open(2, 1048576, &mut b);
-    open(2, 1, &mut b);
+    open(2, 16, 0, &mut b);
+    open(2, 16, 1048577, &mut b);
+    open(0, 16, 0, &mut b);
+    open(0, 16, 64, &mut b);
+    open(257, 16, 64, &mut b);
+    open(3, 16, 64, &mut b);
+    open(2, 16, 1048576, &mut b);
+    open(2, 16, 1, &mut b);
+}
+
+// Of the arity, then of the leaf width, then of the rest.
+fn arities() {
+    let mut b = [165u8; 32832];
+    open(0, 7, 0, &mut b);
+    open(0, 8, 0, &mut b);
+    open(0, 8, 1, &mut b);
+    open(1, 0, 64, &mut b);
+    open(1, 1, 64, &mut b);
+    open(1, 4, 64, &mut b);
+    open(1, 12, 64, &mut b);
+    open(1, 128, 64, &mut b);
+    open(1, 65552, 64, &mut b);
+    open(1, 4294967312, 64, &mut b);
+    open(1, 18446744073709551615, 64, &mut b);
+}
+
+fn open_first(arity: u64, b: &mut [u8], bytes: usize) {
+    if b.len() < bytes {
+        return;
+    }
+    open(1, arity, 64, &mut b[0..bytes]);
+}
+
+// For one station, the longest buffer that is too short, and the shortest that is not.
+fn bounds() {
+    let mut b = [165u8; 524352];
+    open_first(8, &mut b, 8255);
+    open_first(8, &mut b, 8256);
+    open_first(16, &mut b, 32831);
+    open_first(16, &mut b, 32832);
+    open_first(32, &mut b, 131135);
+    open_first(32, &mut b, 131136);
+    open_first(64, &mut b, 524351);
+    open_first(64, &mut b, 524352);
 }
 
 // ---- each refusal, and the edges of the floor
 
 fn refusals() {
     let mut b = [165u8; 33024];
-    open(4, 64, &mut b);
+    open(4, 16, 64, &mut b);
     lowest(&b);
     extract(&mut b);
     register(&mut b, 4, 1099511627776);
@@ -137,7 +174,7 @@ fn refusals() {
 // A station that was taken out is gone from the table, and comes back at another time.
 fn taken() {
     let mut b = [165u8; 33024];
-    open(4, 64, &mut b);
+    open(4, 16, 64, &mut b);
     register(&mut b, 1, 100);
     register(&mut b, 2, 5000);
     unregister(&mut b, 1);
@@ -153,7 +190,7 @@ fn taken() {
 // Leaves whose bits would be found in the other order, were they counted from the least significant.
 fn places() {
     let mut b = [165u8; 33024];
-    open(4, 64, &mut b);
+    open(4, 16, 64, &mut b);
     register(&mut b, 0, 192);
     register(&mut b, 1, 768);
     register(&mut b, 2, 3072);
@@ -167,7 +204,7 @@ fn places() {
 // Only the ring's last block has a time, and then no block.
 fn last_block() {
     let mut b = [165u8; 33024];
-    open(4, 64, &mut b);
+    open(4, 16, 64, &mut b);
     advance(&mut b, 16384);
     register(&mut b, 1, 278527);
     lowest(&b);
@@ -178,7 +215,7 @@ fn last_block() {
 // Times that wait in the overflow table, and that an advanced ring covers: they come before later ones of the ring.
 fn overflow() {
     let mut b = [165u8; 33024];
-    open(4, 64, &mut b);
+    open(4, 16, 64, &mut b);
     register(&mut b, 0, 262144);
     register(&mut b, 1, 262143);
     register(&mut b, 2, 600000);
@@ -226,7 +263,7 @@ fn move_one(b: &mut [u8], away: u64, back: u64) {
 
 fn ties() {
     let mut b = [165u8; 49152];
-    open(256, 64, &mut b);
+    open(256, 16, 64, &mut b);
     register_three(&mut b, 100);
     extract_three(&mut b);
     // in the overflow table
@@ -263,31 +300,56 @@ fn lowest_from(b: &mut [u8], floor: u64) {
     lowest(b);
 }
 
-// One time: at both ends of the ring's first and last blocks, and in the overflow table.
-fn words_read() {
-    let mut b = [165u8; 33024];
-    open(4, 64, &mut b);
+// One time: the last of the ring's first block and the one after it, the same of the block before the last, and of the last, after which it waits in the
+// overflow table.
+fn words_read(arity: u64, first: u64, second: u64, before: u64, last: u64, end: u64, over: u64) {
+    let mut b = [165u8; 524544];
+    open(4, arity, 64, &mut b);
     lowest(&b);
     lowest_at(&mut b, 0);
-    lowest_at(&mut b, 16383);
-    lowest_at(&mut b, 16384);
-    lowest_at(&mut b, 245759);
-    lowest_at(&mut b, 245760);
-    lowest_at(&mut b, 262143);
-    lowest_at(&mut b, 262144);
+    lowest_at(&mut b, first);
+    lowest_at(&mut b, second);
+    lowest_at(&mut b, before);
+    lowest_at(&mut b, last);
+    lowest_at(&mut b, end);
+    lowest_at(&mut b, over);
     // an advanced ring comes to cover it, in slot 0
-    lowest_from(&mut b, 16383);
-    lowest_from(&mut b, 16384);
-    lowest_from(&mut b, 245760);
-    lowest_from(&mut b, 262144);
+    lowest_from(&mut b, first);
+    lowest_from(&mut b, second);
+    lowest_from(&mut b, last);
+    lowest_from(&mut b, over);
     extract(&mut b);
     extract(&mut b);
+}
+
+// Times that are 32 bits and more after the start of the ring.
+fn far_in_the_ring() {
+    let mut b = [165u8; 524544];
+    open(4, 64, 1048576, &mut b);
+    lowest_at(&mut b, 4294967295);
+    lowest_at(&mut b, 4294967296);
+    lowest_at(&mut b, 68719476735);
+    lowest_at(&mut b, 68719476736);
+}
+
+// Two stations in the last of 65536 leaves.
+fn last_leaf() {
+    let mut b = [165u8; 524736];
+    open(7, 64, 64, &mut b);
+    register(&mut b, 5, 4194303);
+    register(&mut b, 6, 4194302);
+    unregister(&mut b, 5);
+    lowest(&b);
+    register(&mut b, 5, 4194303);
+    extract(&mut b);
+    extract(&mut b);
+    lowest(&b);
 }
 
 // A time of the ring's last block, one after the ring, and one of the floor's block.
 fn words_read_of_three() {
     let mut b = [165u8; 33024];
-    open(4, 64, &mut b);
+    open(4, 16, 64, &mut b);
     advance(&mut b, 16384);
     lowest_at(&mut b, 278528);
     register(&mut b, 2, 278527);
@@ -319,7 +381,7 @@ fn open_in(b: &mut [u8]) {
     if b.len() < 34100 {
         return;
     }
-    open(4, 64, &mut b[1000..34100]);
+    open(4, 16, 64, &mut b[1000..34100]);
 }
 
 fn tell_register_in(b: &mut [u8]) {
@@ -420,26 +482,39 @@ fn calls(b: &mut [u8], n: u16, span: u32, seed: u32, count: u32) {
     }
 }
 
-fn drawn(n: u16, width: u64, span: u32, seed: u32, count: u32) {
-    let mut b = [165u8; 49152];
-    open(n as u64, width, &mut b);
+fn drawn(n: u16, arity: u64, width: u64, span: u32, seed: u32, count: u32) {
+    let mut b = [165u8; 540672];
+    open(n as u64, arity, width, &mut b);
     calls(&mut b, n, span, seed, count);
 }
 
 fn main() {
     openings();
+    arities();
+    bounds();
     refusals();
     taken();
     places();
     last_block();
     overflow();
     ties();
-    words_read();
+    words_read(8, 4095, 4096, 61439, 61440, 65535, 65536);
+    words_read(16, 16383, 16384, 245759, 245760, 262143, 262144);
+    words_read(32, 65535, 65536, 983039, 983040, 1048575, 1048576);
+    words_read(64, 262143, 262144, 3932159, 3932160, 4194303, 4194304);
     words_read_of_three();
+    far_in_the_ring();
+    last_leaf();
     part();
-    drawn(5, 1, 9000, 1, 300);
-    drawn(256, 64, 400000, 77, 300);
-    drawn(40, 3, 20000, 12345, 300);
-    drawn(40, 3, 40, 4321, 200);
-    drawn(256, 1048576, 1000000000, 999, 200);
+    drawn(5, 16, 1, 9000, 1, 300);
+    drawn(256, 16, 64, 400000, 77, 300);
+    drawn(40, 16, 3, 20000, 12345, 300);
+    drawn(40, 16, 3, 40, 4321, 200);
+    drawn(256, 16, 1048576, 1000000000, 999, 200);
+    drawn(40, 8, 3, 9000, 11, 300);
+    drawn(256, 8, 64, 200000, 12, 200);
+    drawn(40, 32, 1, 40000, 13, 300);
+    drawn(256, 32, 64, 2000000, 14, 200);
+    drawn(40, 64, 1, 150000, 15, 300);
+    drawn(256, 64, 1048576, 4000000000, 16, 200);
 }

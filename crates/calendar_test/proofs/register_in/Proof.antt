@@ -8,8 +8,8 @@ use borrow.Author.Needs.{needs}
 use denote.Ref.{now}
 use lib.ListN.{take, drop}
 use lib.Seq.{length-take-le, take-at, drop-at}
-use Rattle.calendar.specs.Rules.{Calendar, registerChecks, registeredAt}
-use Rattle.calendar.specs.Promises.{Obeys}
+use Rattle.calendar_header.specs.Rules.{Calendar, registerChecks, registeredAt}
+use Rattle.calendar_header.specs.Promises.{Obeys}
 use Rattle.calendar_test.proofs.register_in.Statement.{statement}
 use Rattle.calendar_test.proofs.register_in.Tie as tie
 

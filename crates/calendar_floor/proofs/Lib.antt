@@ -1,0 +1,4 @@
+pub mod Floor
+pub mod Fetching
+pub mod LeastBefore
+pub mod Advancing

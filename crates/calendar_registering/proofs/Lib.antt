@@ -1,0 +1,3 @@
+pub mod Entering
+pub mod Registering
+pub mod Extracting
