@@ -125,7 +125,7 @@ module _ {line xs before : List ℕ} {r : ℕ} {p : Parsed} (room : 6240 ≤ len
 
 -- ---- the opening
 
-module _ {plan xs before ys : List ℕ} {a : OpenAnswer} (room : 6240 ≤ length before) (O : Opens plan 64 64 xs a ys) where
+module _ {plan xs before ys : List ℕ} {a : OpenAnswer} (room : 6240 ≤ length before) (O : Opens plan 16 64 64 xs a ys) where
   pub opens-done : a ≡ Open.Done → InText (OpensBench plan xs ys) xs before 0 ys before
   unfolding openLines
   opens-done e = is-done [] room (record { answer = a; opens = O; lines = sym (ap openLines e) }) (record { text = refl; ends = refl })

@@ -26,10 +26,10 @@ pub record InText (done : List ℕ → Type 0) (xs before : List ℕ) (r : ℕ) 
 
 -- ---- open
 
--- "w is 64, capacity 64"; "a refused plan or opening prints that and nothing more"
+-- "The bench program keeps arity 16" (document 02, change 9); "w is 64, capacity 64"; "a refused plan or opening prints that and nothing more"
 pub record OpensBench (plan xs ys printed : List ℕ) : Type 0 where
   pub answer : OpenAnswer
-  pub opens : Opens plan 64 64 xs answer ys
+  pub opens : Opens plan 16 64 64 xs answer ys
   pub lines : printed ≡ openLines answer
 
 -- ---- reply

@@ -165,7 +165,7 @@ pub fn open(plan: &[u8], b: &mut [u8], text: &mut [u8]) -> usize
     if text.len() < TEXT {
         return 0;
     }
-    match engine::open(plan, 64, 64, b) {
+    match engine::open(plan, 16, 64, 64, b) {
         OpenAnswer::Done => 0,
         OpenAnswer::Refused(e) => bench_printing::print(text, 0, refused(e)),
     }

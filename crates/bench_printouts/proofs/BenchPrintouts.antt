@@ -71,8 +71,8 @@ module _ (p : Plan) where
 -- ---- the opening
 
 -- an opening's answer is a matter of the plan and the buffer's length
-one-opening : {plan xs ys xs′ ys′ : List ℕ} {r q : OpenAnswer} → length xs ≡ length ys → Opens plan 64 64 xs r xs′ → Opens plan 64 64 ys q ys′ → r ≡ q
-one-opening {plan} e o k = o .answer ∙ ap (λ n. firstOf Refused (openCases plan 64 64 n) Done) e ∙ sym (k .answer)
+one-opening : {plan xs ys xs′ ys′ : List ℕ} {r q : OpenAnswer} → length xs ≡ length ys → Opens plan 16 64 64 xs r xs′ → Opens plan 16 64 64 ys q ys′ → r ≡ q
+one-opening {plan} e o k = o .answer ∙ ap (λ n. firstOf Refused (openCases plan 16 64 64 n) Done) e ∙ sym (k .answer)
 
 never : {e : Refusal} → Done ≡ Refused e → ⊥
 never z = let y : _≡_ {A = ℕ} 0 1 = cc in omega arith
@@ -85,11 +85,11 @@ bench-printouts plan input printed other (accepted {opened = xs} l o c) (accepte
   where
     twins : Twins (lineOf plan) xs ys
     twins = record {
-      engine = opened (lineOf plan) (chosen 64 64);
+      engine = opened (lineOf plan) (chosen 16 64 64);
       posts = [];
       gone = [];
       log = [];
-      inv = opened-inv (lineOf plan) (chosen 64 64);
+      inv = opened-inv (lineOf plan) (chosen 16 64 64);
       one = o .opens refl;
       other = k .opens refl;
     }

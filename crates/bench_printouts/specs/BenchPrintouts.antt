@@ -12,9 +12,9 @@ use Rattle.bench_console.specs.Input.{Ended}
 -- "w is 64, capacity 64, the engine's lent bytes 57344"
 pub data BenchPrintout (plan input : List ℕ) : List ℕ → Type 0 where
   -- "a refused plan or opening prints that and nothing more"
-  refused : {before left : List ℕ} (e : Refusal) → length before ≡ 57344 → Opens plan 64 64 before (Refused e) left
+  refused : {before left : List ℕ} (e : Refusal) → length before ≡ 57344 → Opens plan 16 64 64 before (Refused e) left
       → BenchPrintout plan input (openLines (Refused e))
-  accepted : {before opened left printed : List ℕ} → length before ≡ 57344 → Opens plan 64 64 before Done opened → Ended opened input left printed
+  accepted : {before opened left printed : List ℕ} → length before ≡ 57344 → Opens plan 16 64 64 before Done opened → Ended opened input left printed
       → BenchPrintout plan input printed
 
 abbrev pub BenchPrintouts : Type 0

@@ -14,12 +14,12 @@ use Rattle.engine.proofs.Session.{whole}
 
 listed : {plan : List ℕ} {setting : Setting} {ms : List Made} (o : Printout plan setting ms) → Whole plan setting ms (o .left)
 listed {plan} {setting} {ms} o =
-    whole plan (setting .width) (setting .capacity) (o .before) Done (o .opened) (o .opening) .whole refl (o .left) ms (o .calls)
+    whole plan (setting .arity) (setting .width) (setting .capacity) (o .before) Done (o .opened) (o .opening) .whole refl (o .left) ms (o .calls)
 
 pub same-printouts : Printouts
 same-printouts = record {
   same = λ plan setting ms ns o k. let w = listed o in alike (lineOf plan) (w .stands .range) setting (w .calls) (listed k .calls);
-  other-widths = λ plan v w capacity ms ns o k.
+  other-shapes = λ plan a v b w capacity ms ns o k.
       let l = listed o in
-      alike-but-counts (lineOf plan) (l .stands .range) v w capacity (l .calls) (listed k .calls);
+      alike-but-counts (lineOf plan) (l .stands .range) a v b w capacity (l .calls) (listed k .calls);
 }

@@ -53,12 +53,12 @@ record-said h (recorded j) = refl
 -- ---- the claim
 
 pub whole : Claim
-whole plan width capacity before r xs o = record {
+whole plan arity width capacity before r xs o = record {
   opening = o .number;
   refusal = o .refusal;
   whole = λ d ys ms c.
-      let setting = chosen width capacity in
-      let h : Represents (lineOf plan) (opened (lineOf plan) (chosen width capacity)) xs = o .opens d in
+      let setting = chosen arity width capacity in
+      let h : Represents (lineOf plan) (opened (lineOf plan) (chosen arity width capacity)) xs = o .opens d in
       let t = chain-calls h c in
       let q = W.demand (lineOf plan) (h .range) setting (t .calls) in
       let g = W.reached (lineOf plan) (h .range) setting (t .calls) in

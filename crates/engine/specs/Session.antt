@@ -57,13 +57,13 @@ pub record Whole (plan : List ℕ) (setting : Setting) (ms : List Made) (ys : Li
       → recordSaid r ≡ Recorded (demand .machine .states s)
 
 -- what is claimed of an opening, accepted or not, and of every list of calls after an accepted one
-pub record Session (plan : List ℕ) (width capacity : ℕ) (before : List ℕ) (r : OpenAnswer) (xs : List ℕ) : Type 0 where
+pub record Session (plan : List ℕ) (arity width capacity : ℕ) (before : List ℕ) (r : OpenAnswer) (xs : List ℕ) : Type 0 where
   -- it is accepted exactly where none of the documents' numbers refuses it; a refusal "changes nothing"
-  pub opening : openSays r ≡ judged (checksOf (openCases plan width capacity (length before)))
+  pub opening : openSays r ≡ judged (checksOf (openCases plan arity width capacity (length before)))
   pub refusal : (e : Refusal) → r ≡ Unopened e → xs ≡ before
-  pub whole : r ≡ Done → (ys : List ℕ) (ms : List Made) → Chain xs ms ys → Whole plan (chosen width capacity) ms ys
+  pub whole : r ≡ Done → (ys : List ℕ) (ms : List Made) → Chain xs ms ys → Whole plan (chosen arity width capacity) ms ys
 
 abbrev pub Claim : Type 0
 Claim =
-    (plan : List ℕ) (width capacity : ℕ) (before : List ℕ) (r : OpenAnswer) (xs : List ℕ) → Opens plan width capacity before r xs
-    → Session plan width capacity before r xs
+    (plan : List ℕ) (arity width capacity : ℕ) (before : List ℕ) (r : OpenAnswer) (xs : List ℕ) → Opens plan arity width capacity before r xs
+    → Session plan arity width capacity before r xs

@@ -6,8 +6,8 @@ use Prim.Native.Nat.{ℕ}
 use native.Mathlib.Omega.{arith}
 use lib.Dec.{ltb}
 use Rattle.refusal.specs.declared.Refusal.{Refusal}
-use Rattle.calendar.specs.declared.Least.{Least}
-use Rattle.calendar.specs.declared.Least.the-variants.{At, Refused as NoLeast}
+use Rattle.calendar_answers.specs.declared.Least.{Least}
+use Rattle.calendar_answers.specs.declared.Least.the-variants.{At, Refused as NoLeast}
 use Rattle.line.specs.declared.Event.{Event}
 use Rattle.line.specs.Station.{Plan}
 use Rattle.line.proofs.Order.{asym}

@@ -9,7 +9,7 @@ ghost use Rattle.engine_promises.specs.Answers.{commitSaid, recordSaid};
 ghost use Rattle.engine_promises.specs.Promises.{Answered, Commits};
 ghost use Rattle.engine_committing.specs.Steps.{Early, Counts, Writes, JudgesCommit};
 ghost use Rattle.engine_events.specs.Promises.{AfterHeader};
-use calendar::Least;
+use calendar_answers::Least;
 use engine_answers::CommitAnswer;
 use engine_answers::RecordAnswer;
 use refusal::HORIZON;

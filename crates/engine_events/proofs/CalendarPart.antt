@@ -1,19 +1,18 @@
 -- The calendar's part: what changes before it leaves it, and a call on it changes nothing else.
-use mathlib.Core.Path.{_≡_, refl, sym, ap, ap₂, _∙_, subst}
+use mathlib.Core.Path.{_≡_, refl, sym, ap, ap₂, _∙_}
 use mathlib.Core.Logic.{_⊎_, inl, inr}
-use mathlib.Core.List.{List, _++_}
+use mathlib.Core.List.{List, [], _++_, append-nil}
 use Prim.Native.Nat.{ℕ, zero, suc, _+_, _-_, _*_, _≤_, _<_}
-use native.Mathlib.Nat.{min-le-left, zero-add}
+use native.Mathlib.Nat.{zero-add}
 use native.Mathlib.Omega.{arith}
-use borrow.Rule.Slice.PartMut.{postOf, putMid, same-len-mid, mid-len, take-put, drop-put}
-use lib.ListN.{length, take, drop, getD, length-take, length-drop, List·getD-eq-default}
-use lib.Seq.{getD-take, getD-drop, ext-getD, length-take-le, take-at, drop-at}
+use borrow.Rule.Slice.PartMut.{postOf, putMid, same-len-mid, post-is, take-put}
+use lib.ListN.{length, take, drop, getD, length-drop, List·getD-eq-default}
+use lib.Seq.{getD-take, getD-drop, ext-getD, length-take-le, take-all, drop-length, drop-at}
 use Rattle.words.proofs.Cases.{lt-or}
 use Rattle.words.specs.Le.{leAt, loadAt}
 use Rattle.words.proofs.Total.{load-in}
 use Rattle.rings.specs.Table.{Outside, Frame}
 use Rattle.engine_events.specs.Represents.{calendarAt, part}
-use Rattle.refusal.specs.Tests.{calendarBytes}
 
 -- ---- bytes and numbers
 
@@ -48,63 +47,61 @@ bytes-frame a l xs ys e f = record { size = e; loads = λ m j o. go m j o }
 
 -- ---- a change before the part
 
-length-part : (n c : ℕ) (xs : List ℕ) → length (part n c xs) ≤ calendarBytes n
-length-part n c xs = rw (length-take (calendarBytes n) (drop (calendarAt n c) xs)) (min-le-left (calendarBytes n) (length (drop (calendarAt n c) xs)))
-
 pub part-kept : {a l : ℕ} {xs ys : List ℕ} (n c : ℕ) → Frame a l xs ys → a + l ≤ calendarAt n c → part n c ys ≡ part n c xs
 part-kept {a} {l} {xs} {ys} n c F h =
     ext-getD 0 (part n c ys) (part n c xs)
-    (simp (length-take, length-drop) (rw (F .size)))
+    (simp (length-drop) (rw (F .size)))
     (λ i p.
-    let w : i < calendarBytes n = omega (arith, length-part n c ys) in
-    at i ys w ∙ byte-kept (calendarAt n c + i) F (inl (omega arith)) ∙ sym (at i xs w))
-  where
-    at : (i : ℕ) (zs : List ℕ) → i < calendarBytes n → getD (part n c zs) i 0 ≡ getD zs (calendarAt n c + i) 0
-    at i zs p = getD-take (calendarBytes n) (drop (calendarAt n c) zs) i 0 p ∙ getD-drop (calendarAt n c) zs i 0
+    getD-drop (calendarAt n c) ys i 0 ∙ byte-kept (calendarAt n c + i) F (inl (omega arith)) ∙ sym (getD-drop (calendarAt n c) xs i 0))
 
 -- ---- a call on the part
 
--- zs stands in the place of the w bytes from a on, and nothing else is changed
-abbrev PutAt : ℕ → ℕ → List ℕ → List ℕ → List ℕ → Type 0
-PutAt a w xs zs ys = (take w (drop a ys) ≡ zs) × Frame a w xs ys
+-- zs stands in the place of the bytes from a on, and nothing else is changed
+abbrev PutAt : ℕ → List ℕ → List ℕ → List ℕ → Type 0
+PutAt a xs zs ys = (drop a ys ≡ zs) × Frame a (length xs) xs ys
 
 abbrev pub Put : ℕ → ℕ → List ℕ → List ℕ → List ℕ → Type 0
-Put n c xs zs ys = PutAt (calendarAt n c) (calendarBytes n) xs zs ys
+Put n c xs zs ys = PutAt (calendarAt n c) xs zs ys
 
-module _ (start end : ℕ) (xs zs : List ℕ) (l : start ≤ end) (h : end ≤ length xs) (s : length zs ≡ length (take (end - start) (drop start xs))) where
+module _ (start : ℕ) (xs zs : List ℕ) (h : start ≤ length xs) (s : length zs ≡ length (take (length xs - start) (drop start xs))) where
   abbrev after : List ℕ
-  after = putMid start (end - start) xs zs
+  after = putMid start (length xs - start) xs zs
 
-  size : length zs ≡ end - start
-  size = s ∙ mid-len start end xs h
+  -- all that stands from there on is lent
+  whole : take (length xs - start) (drop start xs) ≡ drop start xs
+  whole = let k = length-drop start xs in take-all (length xs - start) (drop start xs) (omega (arith, k))
 
-  outer : (i : ℕ) → Outside start (end - start) i 1 → getD after i 0 ≡ getD xs i 0
+  nothing-after : postOf start (length xs - start) xs ≡ []
+  nothing-after = post-is start (length xs) xs h ∙ drop-length xs
+
+  back : drop start after ≡ zs
+  back =
+      drop-at (take start xs) (zs ++ postOf start (length xs - start) xs) start (length-take-le start xs h)
+      ∙ ap (λ (l : List ℕ). zs ++ l) nothing-after ∙ append-nil zs
+
+  outer : (i : ℕ) → Outside start (length xs) i 1 → getD after i 0 ≡ getD xs i 0
   outer i (inr o) =
       let p : i < start = omega arith in
       sym (getD-take start after i 0 p)
-      ∙ ap (λ (l : List ℕ). getD l i 0) (take-put start (end - start) xs zs (omega arith))
+      ∙ ap (λ (l : List ℕ). getD l i 0) (take-put start (length xs - start) xs zs h)
       ∙ getD-take start xs i 0 p
   outer i (inl o) =
-      let w : end + (i - end) ≡ i = omega arith in
-      subst (λ (j : ℕ). getD after j 0 ≡ getD xs j 0) w
-      (sym (getD-drop end after (i - end) 0)
-      ∙ ap (λ (l : List ℕ). getD l (i - end) 0) (drop-put start end xs zs l h size)
-      ∙ getD-drop end xs (i - end) 0)
+      List·getD-eq-default after 0 (omega (arith, same-len-mid start (length xs - start) xs zs s)) ∙ sym (List·getD-eq-default xs 0 (omega arith))
 
-  put-at : PutAt start (end - start) xs zs after
-  put-at =
-      let before : length (take start xs) ≡ start = length-take-le start xs (omega arith) in
-      let back : drop start after ≡ zs ++ postOf start (end - start) xs = drop-at (take start xs) (zs ++ postOf start (end - start) xs) start before in (
-        rw back (take-at zs (postOf start (end - start) xs) (end - start) size),
-        bytes-frame start (end - start) xs after (same-len-mid start (end - start) xs zs s) outer,
-      )
+  put-at : PutAt start xs zs after
+  put-at = (back, bytes-frame start (length xs) xs after (same-len-mid start (length xs - start) xs zs s) outer)
 
-  -- its place and width by other names
-  named : {a w : ℕ} → start ≡ a → end - start ≡ w → (take (end - start) (drop start xs) ≡ take w (drop a xs)) × PutAt a w xs zs after
-  named e k = rw (← e, ← k) (refl, put-at)
+  -- its place by another name
+  named : {a : ℕ} → start ≡ a → (take (length xs - start) (drop start xs) ≡ drop a xs) × PutAt a xs zs after
+  named e = rw (← e) (whole, put-at)
 
--- as the call sees it: the place and the end of the part are locals
-pub part-put : (n c : ℕ) {start end : ℕ} (xs zs : List ℕ) → start ≡ calendarAt n c → end ≡ start + 32768 + 64 * n → end ≤ length xs
-    → length zs ≡ length (take (end - start) (drop start xs))
-    → (take (end - start) (drop start xs) ≡ part n c xs) × Put n c xs zs (putMid start (end - start) xs zs)
-part-put n c {start} {end} xs zs e k h s = named start end xs zs (omega arith) h s e (omega arith)
+-- as the call sees it: the place of the part is a local
+pub part-put : (n c : ℕ) {start : ℕ} (xs zs : List ℕ) → start ≡ calendarAt n c → start ≤ length xs
+    → length zs ≡ length (take (length xs - start) (drop start xs))
+    → (take (length xs - start) (drop start xs) ≡ part n c xs) × Put n c xs zs (putMid start (length xs - start) xs zs)
+part-put n c {start} xs zs e h s = named start xs zs h s e
+
+-- the same of a part that is read
+pub part-whole : (n c : ℕ) {start : ℕ} (xs : List ℕ) → start ≡ calendarAt n c → take (length xs - start) (drop start xs) ≡ part n c xs
+part-whole n c {start} xs e =
+    let k = length-drop start xs in take-all (length xs - start) (drop start xs) (omega (arith, k)) ∙ ap (λ (a : ℕ). drop a xs) e

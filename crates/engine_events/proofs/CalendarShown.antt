@@ -14,8 +14,8 @@ use Rattle.rules.proofs.Replay.LeastUnrun.{NoUnrun, in-unrun}
 use Rattle.rules.proofs.Replay.Registered.{registered-absent, from-length, from-at}
 use Rattle.rules.proofs.Calls.Tests.{none-registered, some-registered}
 use Rattle.words.proofs.Cases.{lt-or}
-use Rattle.calendar.specs.Rules.{LeastAt, noneRegistered}
-use Rattle.calendar.proofs.Tests.{none-true, none-false}
+use Rattle.calendar_header.specs.Rules.{LeastAt, noneRegistered}
+use Rattle.calendar_header.proofs.Tests.{none-true, none-false}
 use Rattle.engine_events.specs.Shows.{Inside, Shows}
 
 -- ---- one time

@@ -7,8 +7,8 @@ use lib.ListN.{length}
 use Rattle.refusal.specs.declared.Refusal.{Refusal}
 use Rattle.refusal.specs.declared.Refusal.the-variants.{Idle}
 use Rattle.calendar_ring.specs.WordsRead.{wordsRead}
-use Rattle.calendar.specs.declared.Least.{Least}
-use Rattle.calendar.specs.declared.Least.the-variants.{At, Refused as NoLeast}
+use Rattle.calendar_answers.specs.declared.Least.{Least}
+use Rattle.calendar_answers.specs.declared.Least.the-variants.{At, Refused as NoLeast}
 use Rattle.line.specs.Station.{Plan}
 use Rattle.rules.specs.Held.{Queue, noneUnrun, registeredFrom, Lowest}
 use Rattle.rules.specs.Engine.{Setting}
@@ -31,4 +31,4 @@ pub record Finds (n c : ℕ) (xs : List ℕ) (r : Least) : Type 0 where
       → noneUnrun (q .held) ≡ true
   pub some : (p : Plan) (setting : Setting) (now : ℕ) (q : Queue) (cells : List Cell) → Holds p setting n c now xs q cells → (s t k : ℕ) → r ≡ At s t k
       → (noneUnrun (q .held) ≡ false) × (s < n) × (l : Lowest (q .held) s) × (l .time ≡ t)
-      × (k ≡ wordsRead 16 (setting .width) now (registeredFrom (q .held) 0 n))
+      × (k ≡ wordsRead (setting .arity) (setting .width) now (registeredFrom (q .held) 0 n))

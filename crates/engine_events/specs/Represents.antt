@@ -6,8 +6,8 @@ use mathlib.Core.Option.{none as noTime}
 use mathlib.Core.List.{List, [], _∷_, _++_, List·Memᴰ}
 use Prim.Native.Nat.{ℕ, _+_, _*_, _≤_, _<_}
 use lib.Dec.{eqb, leb}
-use lib.ListN.{length, take, drop, getD}
-use Rattle.refusal.specs.Tests.{horizon, calendarBytes, engineBytes}
+use lib.ListN.{length, drop, getD}
+use Rattle.refusal.specs.Tests.{horizon}
 use Rattle.words.specs.Le.{loadAt}
 use Rattle.line.specs.declared.Event.{Event}
 use Rattle.line.specs.declared.State.{State}
@@ -16,23 +16,23 @@ use Rattle.rules.specs.Held.{Held, ran, event, In, Queue, asTime, registered}
 use Rattle.rules.specs.Engine.{Setting}
 use Rattle.engine_rows.specs.Layout.{stationRow, slotRow}
 use Rattle.engine_records.specs.Records.{stateAt, storedConfig}
-use Rattle.calendar.specs.Bytes.{Sound, stateOf}
+use Rattle.calendar_header.specs.Bytes.{Sound, stateOf}
 use Rattle.engine_events.specs.Shows.{Inside, Shows}
 use Rattle.engine_index.specs.Layout.{nodesOf, slotOf, logAt}
 use Rattle.engine_index.specs.Represents.{Cell, cell, Stands}
 
 -- ---- the buffer
 
--- "32768 + 256·N + 256·capacity (engine)" bytes are enough, and the numbers are in range
-abbrev pub fitsIn : ℕ → ℕ → ℕ → Bool
-fitsIn n c bytes = leb n 256 && (leb c 4096 && leb (engineBytes n c) bytes)
-
--- the calendar's part stands after the log's links
+-- the calendar's part stands after the log's links, and reaches to the end of the buffer
 abbrev pub calendarAt : ℕ → ℕ → ℕ
 calendarAt n c = logAt n c + 4 * nodesOf n c
 
 abbrev pub part : ℕ → ℕ → List ℕ → List ℕ
-part n c xs = take (calendarBytes n) (drop (calendarAt n c) xs)
+part n c xs = drop (calendarAt n c) xs
+
+-- the numbers are in range, and so many bytes hold all that stands before the calendar's part
+abbrev pub fitsIn : ℕ → ℕ → ℕ → Bool
+fitsIn n c bytes = leb n 256 && (leb c 4096 && leb (calendarAt n c) bytes)
 
 -- ---- the cells
 
@@ -72,7 +72,7 @@ Kids p n xs cells = (x : ℕ) (e : Event) (b : State) → Has (cell x (ran e b))
 pub record Stores (p : Plan) (n c now : ℕ) (xs : List ℕ) (q : Queue) (cells : List Cell) : Type 0 where
   pub count : p .count ≡ n
   pub some : 1 ≤ c
-  pub long : engineBytes n c ≤ length xs
+  pub long : calendarAt n c ≤ length xs
   pub configs : (s : ℕ) → s < n → storedConfig (stationRow n s) xs ≡ p .config s
   pub states : (s : ℕ) → s < n → stateAt (stationRow n s + 32) xs ≡ q .states s
   pub free : List ℕ
@@ -82,10 +82,11 @@ pub record Stores (p : Plan) (n c now : ℕ) (xs : List ℕ) (q : Queue) (cells 
   pub times : (y : Held) → In y (q .held) → (now ≤ event y .time) × (event y .time ≤ horizon)
   pub kids : Kids p n xs cells
 
--- the calendar's part is a calendar of the leaf width that the opening chose, with the floor `now`, that shows the held events: it has "each station that
--- has an unrun event, at the time of its least one, and no other"
+-- the calendar's part is a calendar of the arity and the leaf width that the opening chose, with the floor `now`, that shows the held events: it has "each
+-- station that has an unrun event, at the time of its least one, and no other"
 pub record Calendared (setting : Setting) (n c now : ℕ) (xs : List ℕ) (h : List Held) : Type 0 where
   pub sound : Sound (part n c xs)
+  pub arity : stateOf (part n c xs) .arity ≡ setting .arity
   pub width : stateOf (part n c xs) .width ≡ setting .width
   pub floor : stateOf (part n c xs) .floor ≡ now
   pub shows : Shows n (stateOf (part n c xs) .times) h
@@ -93,6 +94,7 @@ pub record Calendared (setting : Setting) (n c now : ℕ) (xs : List ℕ) (h : L
 -- it does so but for station s, whose least unrun event may have changed
 pub record Untold (setting : Setting) (n c now s : ℕ) (xs : List ℕ) (h : List Held) : Type 0 where
   pub sound : Sound (part n c xs)
+  pub arity : stateOf (part n c xs) .arity ≡ setting .arity
   pub width : stateOf (part n c xs) .width ≡ setting .width
   pub floor : stateOf (part n c xs) .floor ≡ now
   pub size : length (stateOf (part n c xs) .times) ≡ n

@@ -1,7 +1,7 @@
 // The held events with their index (crate engine_index), the stations' states (crate engine_rows) and the calendar: what they hold together, and what is
 // read of them. engine_moves changes them.
 //
-// The calendar stands after the index, in 32768 + 64 n bytes. Each function takes any bytes and any numbers; n stations and c slots are the header's.
+// The calendar stands after the index, to the end of the buffer. Each function takes any bytes and any numbers; n stations and c slots are the header's.
 
 ghost use mathlib.Core.Path.{_≡_};
 ghost use Prim.Native.Nat.{_+_};
@@ -13,14 +13,14 @@ ghost use Rattle.engine_records.specs.Records.{stateAt};
 ghost use Rattle.engine_index.specs.Layout.{slotOf};
 ghost use Rattle.engine_events.specs.Represents.{fitsIn, calendarAt};
 ghost use Rattle.engine_events.specs.Promises.{Finds};
-use calendar::Least;
+use calendar_answers::Least;
 use line::Event;
 use line::State;
 use refusal::Refusal;
 
 // ---- the buffer
 
-// Are the numbers in range, and is the buffer long enough for them?
+// Are the numbers in range, and is the buffer long enough for what stands before the calendar?
 pub fn fits(b: &[u8], n: u16, c: u16) -> bool
     ensures { λ r. ⌜ r ≡ fitsIn n c (length (now (b .entry))) ⌝ }
 {
@@ -30,7 +30,7 @@ pub fn fits(b: &[u8], n: u16, c: u16) -> bool
     if 4096 < c {
         return false;
     }
-    32768 + 256 * n as usize + 256 * c as usize <= b.len()
+    calendar_start(n, c) as usize <= b.len()
 }
 
 // ---- what stands in the slot of a node
@@ -75,11 +75,8 @@ pub fn lowest(b: &[u8], n: u16, c: u16) -> Least
     ensures { λ r. ⌜ Finds n c (now (b .entry)) r ⌝ }
 {
     if fits(b, n, c) {
-        if 0 < c {
-            let start = calendar_start(n, c) as usize;
-            let end = start + 32768 + 64 * n as usize;
-            return calendar::lowest(&b[start..end]);
-        }
+        let start = calendar_start(n, c) as usize;
+        return calendar::lowest(&b[start..]);
     }
     Least::Refused(Refusal::Idle)
 }

@@ -7,8 +7,8 @@ use Rattle.words.specs.Le.{loadAt}
 use Rattle.refusal.specs.declared.Refusal.{Refusal}
 use Rattle.refusal.specs.Numbers.{numberOf}
 use Rattle.refusal.specs.Tests.{Verdict, refused}
-use Rattle.calendar.specs.declared.Least.{Least}
-use Rattle.calendar.specs.declared.Least.the-variants.{At, Refused as NoLeast}
+use Rattle.calendar_answers.specs.declared.Least.{Least}
+use Rattle.calendar_answers.specs.declared.Least.the-variants.{At, Refused as NoLeast}
 use Rattle.line.specs.Station.{Plan}
 use Rattle.rules.specs.Held.{Lowest}
 use Rattle.rules.specs.Engine.{Engine, RunStation, RunLowest, Refused, Ran, RanLowest}

@@ -8,7 +8,7 @@ ghost use Rattle.rules.specs.Engine.Call.{RunLowest};
 ghost use Rattle.engine_promises.specs.Answers.{lowestSaid};
 ghost use Rattle.engine_promises.specs.Promises.{Answered};
 ghost use Rattle.engine_lowest.specs.Steps.{JudgesLowest, withWords};
-use calendar::Least;
+use calendar_answers::Least;
 use engine_answers::LowestAnswer;
 use engine_answers::RunAnswer;
 use refusal::Refusal;

@@ -2,7 +2,7 @@
 use mathlib.Core.Path.{_≡_, _∙_}
 use mathlib.Core.Logic.{inr}
 use mathlib.Core.List.{List}
-use Prim.Native.Nat.{ℕ, _+_, _-_, _*_, _≤_}
+use Prim.Native.Nat.{ℕ, _-_, _≤_}
 use native.Mathlib.Omega.{arith}
 use borrow.Rule.Slice.PartMut.{putMid}
 use lib.ListN.{length, take, drop}
@@ -10,17 +10,17 @@ use Rattle.line.specs.Station.{Plan}
 use Rattle.rules.specs.Held.{Held, unrun, event, In, Queue}
 use Rattle.rules.proofs.Undo.RunFirst.{first-in}
 use Rattle.rules.proofs.Replay.Registered.{registered-first}
-use Rattle.rings.proofs.Frames.{frame-same, frame-wider}
-use Rattle.calendar.specs.declared.Answer.{Answer}
-use Rattle.calendar.specs.Rules.{advanceChecks, advanced}
-use Rattle.calendar.specs.Bytes.{stateOf}
-use Rattle.calendar.specs.Promises.{Obeys}
-use Rattle.calendar.proofs.Tests.{any-false}
+use Rattle.calendar_answers.specs.declared.Answer.{Answer}
+use Rattle.calendar_header.specs.Rules.{advanceChecks, advanced}
+use Rattle.calendar_header.specs.Bytes.{stateOf}
+use Rattle.calendar_header.specs.Promises.{Obeys}
+use Rattle.calendar_header.proofs.Tests.{any-false}
 use Rattle.engine_events.proofs.CalendarShown.{has-registered}
 use Rattle.engine_index.specs.Represents.{Cell}
 use Rattle.engine_events.specs.Represents.{calendarAt, part, Stores}
 use Rattle.engine_events.specs.Promises.{AfterHeader}
 use Rattle.engine_moves.specs.Promises.{Raises}
+use Rattle.engine_events.proofs.AfterHeader.{after-header, after-header-same}
 use Rattle.engine_events.proofs.CalendarPart.{Put, part-put}
 use Rattle.engine_events.proofs.StationsKept.{stores-kept}
 use Rattle.engine_events.proofs.CalendarAccepts.{accepted-done, advance-accepted}
@@ -43,13 +43,12 @@ stores-at floor f S =
       kids = S .kids;
     }
 
-pub raised : (n c floor : ℕ) {start end : ℕ} (xs zs : List ℕ) {r : Answer} → start ≡ calendarAt n c → end ≡ start + 32768 + 64 * n
-    → end ≤ length xs
-    → length zs ≡ length (take (end - start) (drop start xs))
-    → Obeys (λ q. advanceChecks q floor) (λ q. advanced q floor) (take (end - start) (drop start xs)) r zs
-    → AfterHeader xs (putMid start (end - start) xs zs) × Raises n c floor xs (putMid start (end - start) xs zs)
-raised n c floor {start} {end} xs zs {r} ls le long size O = (
-  frame-wider 64 (length xs) (omega arith) (omega arith) (put .1 .1),
+pub raised : (n c floor : ℕ) {start : ℕ} (xs zs : List ℕ) {r : Answer} → start ≡ calendarAt n c → start ≤ length xs
+    → length zs ≡ length (take (length xs - start) (drop start xs))
+    → Obeys (λ q. advanceChecks q floor) (λ q. advanced q floor) (take (length xs - start) (drop start xs)) r zs
+    → AfterHeader xs (putMid start (length xs - start) xs zs) × Raises n c floor xs (putMid start (length xs - start) xs zs)
+raised n c floor {start} xs zs {r} ls long size O = (
+  after-header (omega arith) (put .1 .1),
   λ p setting now q cells H a b f.
       let C = H .calendar in
       let O : Obeys (λ q. advanceChecks q floor) (λ q. advanced q floor) (part n c xs) r zs = rw (put .0) at O in
@@ -61,6 +60,7 @@ raised n c floor {start} {end} xs zs {r} ls le long size O = (
         stores = stores-at floor f (stores-kept (put .1 .1) (inr (omega arith)) (H .stores));
         calendar = record {
           sound = rw (put .1 .0) (O .sound (C .sound));
+          arity = rw (put .1 .0, state) (C .arity);
           width = rw (put .1 .0, state) (C .width);
           floor = rw (put .1 .0, state);
           shows = rw (put .1 .0, state) (C .shows);
@@ -68,8 +68,8 @@ raised n c floor {start} {end} xs zs {r} ls le long size O = (
       },
 )
   where
-    put : (take (end - start) (drop start xs) ≡ part n c xs) × Put n c xs zs (putMid start (end - start) xs zs)
-    put = part-put n c xs zs ls le long size
+    put : (take (length xs - start) (drop start xs) ≡ part n c xs) × Put n c xs zs (putMid start (length xs - start) xs zs)
+    put = part-put n c xs zs ls long size
 
 pub raises-none : (n c floor : ℕ) (xs : List ℕ) → Nothing n c xs → AfterHeader xs xs × Raises n c floor xs xs
-raises-none n c floor xs N = (frame-same 64 (length xs) xs, λ p setting now q cells H _ _ _. absurd (N p setting now q cells H))
+raises-none n c floor xs N = (after-header-same xs, λ p setting now q cells H _ _ _. absurd (N p setting now q cells H))

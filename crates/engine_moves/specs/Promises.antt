@@ -4,7 +4,7 @@ use mathlib.Core.Bool.{Bool, true, false}
 use mathlib.Core.List.{List, [], _∷_, _++_, List·Memᴰ}
 use Prim.Native.Nat.{ℕ, suc, _+_, _≤_, _<_}
 use lib.ListN.{length}
-use Rattle.refusal.specs.Tests.{horizon}
+use Rattle.refusal.specs.Tests.{horizon, arityOut, engineBytes}
 use Rattle.line.specs.declared.Event.{Event}
 use Rattle.line.specs.declared.State.{State}
 use Rattle.line.specs.Event.{before}
@@ -16,7 +16,7 @@ use Rattle.engine_rows.specs.Layout.{stationRow}
 use Rattle.line.specs.Widths.{EventFits, StateFits}
 use Rattle.engine_records.specs.Records.{stateAt, storedConfig}
 use Rattle.engine_index.specs.Represents.{Cell, cell}
-use Rattle.engine_events.specs.Represents.{fitsIn, heldOf, Has, From, nonzero, Nodes, Holds}
+use Rattle.engine_events.specs.Represents.{heldOf, Has, From, nonzero, Nodes, Holds}
 
 -- the bytes hold q, in cells that were among these
 pub record HoldsAmong (p : Plan) (setting : Setting) (n c now : ℕ) (ys : List ℕ) (q : Queue) (cells : List Cell) : Type 0 where
@@ -86,9 +86,11 @@ Raises n c floor xs ys =
     (p : Plan) (setting : Setting) (now : ℕ) (q : Queue) (cells : List Cell) → Holds p setting n c now xs q cells → now ≤ floor → floor ≤ suc horizon
     → ((y : Held) → In y (q .held) → floor ≤ event y .time) → Holds p setting n c floor ys q cells
 
--- no event is held, at the stations that stand there with their first states, by a calendar of that leaf width; whatever else the bytes held
-abbrev pub ClearsEvents : ℕ → ℕ → ℕ → List ℕ → List ℕ → Type 0
-ClearsEvents n c width xs ys =
-    (p : Plan) → p .count ≡ n → 1 ≤ n → 1 ≤ c → fitsIn n c (length xs) ≡ true → 1 ≤ width → width ≤ 1048576
+-- no event is held, at the stations that stand there with their first states, by a calendar of that arity and leaf width; whatever else
+-- the bytes held
+abbrev pub ClearsEvents : ℕ → ℕ → ℕ → ℕ → List ℕ → List ℕ → Type 0
+ClearsEvents n c arity width xs ys =
+    (p : Plan) → p .count ≡ n → 1 ≤ n → n ≤ 256 → 1 ≤ c → c ≤ 4096 → arityOut arity ≡ false
+    → engineBytes arity n c ≤ length xs → 1 ≤ width → width ≤ 1048576
     → ((s : ℕ) → s < n → storedConfig (stationRow n s) xs ≡ p .config s) → ((s : ℕ) → s < n → stateAt (stationRow n s + 32) xs ≡ initial p s)
-    → Holds p (chosen width c) n c 0 ys (opened p (chosen width c) .queue) []
+    → Holds p (chosen arity width c) n c 0 ys (opened p (chosen arity width c) .queue) []

@@ -5,12 +5,11 @@
 
 ghost use mathlib.Core.Path.{_≡_};
 ghost use mathlib.Core.Bool.{true, false};
-ghost use Prim.Native.Nat.{_+_, _*_, _≤_, _<_};
+ghost use Prim.Native.Nat.{_+_, _≤_, _<_};
 ghost use lib.ListN.{length};
 ghost use Rattle.rings.specs.Table.{Frame};
 ghost use Rattle.engine_moves.specs.RunCount.{runsBelow};
 ghost use Rattle.engine_events.specs.Represents.{calendarAt};
-ghost use Rattle.refusal.specs.Tests.{calendarBytes};
 ghost use Rattle.engine_events.specs.Promises.{AfterHeader};
 ghost use Rattle.engine_moves.specs.Answers.{heldNode, hasRunAt};
 ghost use Rattle.engine_moves.specs.Steps.{Tells};
@@ -22,19 +21,18 @@ use line::State;
 
 // The calendar is told the time of a station's first unrun event.
 fn tell(b: &mut [u8], n: u16, c: u16, s: u16)
-    requires { ⌜ (n ≤ 256) × (1 ≤ c) × (c ≤ 4096) × (s < n) × (32768 + 256 * n + 256 * c ≤ length (now b)) ⌝ }
-    ensures frame { λ _. ⌜ Frame (calendarAt n c) (calendarBytes n) (now (b .entry)) (now (b .exit)) ⌝ }
+    requires { ⌜ (n ≤ 256) × (c ≤ 4096) × (s < n) × (calendarAt n c ≤ length (now b)) ⌝ }
+    ensures frame { λ _. ⌜ Frame (calendarAt n c) (length (now (b .entry))) (now (b .entry)) (now (b .exit)) ⌝ }
     ensures tells { λ _. ⌜ Tells n c s (now (b .entry)) (now (b .exit)) ⌝ }
 {
     let start = engine_events::calendar_start(n, c) as usize;
-    let end = start + 32768 + 64 * n as usize;
     let x = engine_ends::first_unrun(b, n, c, s);
     if x == 0 {
-        calendar::unregister(&mut b[start..end], s as u64);
+        calendar::unregister(&mut b[start..], s as u64);
         return;
     }
     let t = engine_rows::time(b, n, engine_index::slot(n, x));
-    calendar::register(&mut b[start..end], s as u64, t);
+    calendar::register(&mut b[start..], s as u64, t);
 }
 
 // ---- the changes
@@ -141,25 +139,19 @@ pub fn raise(b: &mut [u8], n: u16, c: u16, floor: u64)
     ensures raises { λ _. ⌜ Raises n c floor (now (b .entry)) (now (b .exit)) ⌝ }
 {
     if engine_events::fits(b, n, c) {
-        if 0 < c {
-            let start = engine_events::calendar_start(n, c) as usize;
-            let end = start + 32768 + 64 * n as usize;
-            calendar::advance(&mut b[start..end], floor);
-        }
+        let start = engine_events::calendar_start(n, c) as usize;
+        calendar::advance(&mut b[start..], floor);
     }
 }
 
-// No event is held.
-pub fn clear(b: &mut [u8], n: u16, c: u16, width: u64)
+// No event is held, by a calendar of this arity and leaf width.
+pub fn clear(b: &mut [u8], n: u16, c: u16, arity: u64, width: u64)
     ensures frame { λ _. ⌜ AfterHeader (now (b .entry)) (now (b .exit)) ⌝ }
-    ensures clears { λ _. ⌜ ClearsEvents n c width (now (b .entry)) (now (b .exit)) ⌝ }
+    ensures clears { λ _. ⌜ ClearsEvents n c arity width (now (b .entry)) (now (b .exit)) ⌝ }
 {
     if engine_events::fits(b, n, c) {
-        if 0 < c {
-            let start = engine_events::calendar_start(n, c) as usize;
-            let end = start + 32768 + 64 * n as usize;
-            calendar::open(n as u64, width, &mut b[start..end]);
-            engine_freeing::clear(b, n, c);
-        }
+        let start = engine_events::calendar_start(n, c) as usize;
+        calendar::open(n as u64, arity, width, &mut b[start..]);
+        engine_freeing::clear(b, n, c);
     }
 }

@@ -1,2 +1,3 @@
 pub mod Beginning
+pub mod Choice
 pub mod Opening

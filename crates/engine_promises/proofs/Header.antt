@@ -49,7 +49,7 @@ header-holds {n = n} {c = c} {xs = xs} {ys = ys} F H =
     let C = H .calendar in
     record {
       stores = stores-kept F (inl (omega arith)) (H .stores);
-      calendar = record { sound = rw e (C .sound); width = rw e (C .width); floor = rw e (C .floor); shows = rw e (C .shows) };
+      calendar = record { sound = rw e (C .sound); arity = rw e (C .arity); width = rw e (C .width); floor = rw e (C .floor); shows = rw e (C .shows) };
     }
 
 -- ---- what the header says of an engine

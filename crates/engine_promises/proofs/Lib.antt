@@ -7,3 +7,4 @@ pub mod PostRunChecks
 pub mod FreePlaces
 pub mod FoundSlots
 pub mod NewEvents
+pub mod OpeningOrder

@@ -4,9 +4,9 @@ use mathlib.Core.List.{List, [], _∷_, _++_}
 use Prim.Native.Nat.{ℕ}
 use lib.ListN.{length}
 use Rattle.refusal.specs.declared.Refusal.{Refusal}
-use Rattle.refusal.specs.declared.Refusal.the-variants.{Width, Space}
+use Rattle.refusal.specs.declared.Refusal.the-variants.{Arity, Width, Space}
 use Rattle.refusal.specs.Numbers.{stationsOf}
-use Rattle.refusal.specs.Tests.{widthOut, engineSpaceOut, judged}
+use Rattle.refusal.specs.Tests.{arityOut, widthOut, engineSpaceOut, judged}
 use Rattle.refusal.specs.Cases.{Case, gives, firstOf, checksOf}
 use Rattle.line.specs.Station.{Plan}
 use Rattle.rules.specs.Engine.{chosen, Engine, opened, Call, Answer, Refused}
@@ -20,18 +20,21 @@ use Rattle.engine_promises.specs.Answers.{openSays, openStation}
 
 -- ---- open
 
--- the opening gives 1 to 5 of the plan, then 6, then 7
-abbrev pub openCases : List ℕ → ℕ → ℕ → ℕ → List Case
-openCases plan width capacity bytes =
-    planCases plan ++ (gives Width (widthOut width) ∷ gives Space (engineSpaceOut (count plan) capacity bytes) ∷ [])
+-- the opening gives 1 to 5 of the plan, then 26, 6 and 7 ("26: arity not among the four, checked before 6", document 02, change 9)
+abbrev pub choiceCases : ℕ → ℕ → ℕ → ℕ → ℕ → List Case
+choiceCases n arity width capacity bytes =
+    gives Arity (arityOut arity) ∷ gives Width (widthOut width) ∷ gives Space (engineSpaceOut arity n capacity bytes) ∷ []
+
+abbrev pub openCases : List ℕ → ℕ → ℕ → ℕ → ℕ → List Case
+openCases plan arity width capacity bytes = planCases plan ++ choiceCases (count plan) arity width capacity bytes
 
 -- of the plan's bytes, the buffer xs at entry, the answer r and the buffer ys at exit. "An opening doesn't depend on what its buffer held before"
-pub record Opens (plan : List ℕ) (width capacity : ℕ) (xs : List ℕ) (r : OpenAnswer) (ys : List ℕ) : Type 0 where
-  pub answer : r ≡ firstOf Unopened (openCases plan width capacity (length xs)) Done
-  pub number : openSays r ≡ judged (checksOf (openCases plan width capacity (length xs)))
-  pub station : openStation r ≡ firstOf stationsOf (openCases plan width capacity (length xs)) []
+pub record Opens (plan : List ℕ) (arity width capacity : ℕ) (xs : List ℕ) (r : OpenAnswer) (ys : List ℕ) : Type 0 where
+  pub answer : r ≡ firstOf Unopened (openCases plan arity width capacity (length xs)) Done
+  pub number : openSays r ≡ judged (checksOf (openCases plan arity width capacity (length xs)))
+  pub station : openStation r ≡ firstOf stationsOf (openCases plan arity width capacity (length xs)) []
   pub refusal : (e : Refusal) → r ≡ Unopened e → ys ≡ xs
-  pub opens : r ≡ Done → Represents (lineOf plan) (opened (lineOf plan) (chosen width capacity)) ys
+  pub opens : r ≡ Done → Represents (lineOf plan) (opened (lineOf plan) (chosen arity width capacity)) ys
 
 -- ---- the calls after it
 

@@ -2,8 +2,8 @@
 
 ghost use mathlib.Core.Path.{_≡_};
 ghost use Rattle.exports_codes.specs.CalendarCodes.{codeOf, leastCode, found};
-use calendar::Answer;
-use calendar::Least;
+use calendar_answers::Answer;
+use calendar_answers::Least;
 
 pub fn code(a: Answer) -> u64
     ensures { λ r. ⌜ r ≡ codeOf a ⌝ }

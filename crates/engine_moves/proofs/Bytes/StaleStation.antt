@@ -14,6 +14,7 @@ module _ {setting : Setting} {n c now : ℕ} {xs ys : List ℕ} {h : List Held} 
   pub untold : (s : ℕ) → ((t : ℕ) → t ≢ s → registered k t ≡ registered h t) → Untold setting n c now s ys k
   untold s f = record {
     sound = rw e (C .sound);
+    arity = rw e (C .arity);
     width = rw e (C .width);
     floor = rw e (C .floor);
     size = rw e (C .shows .length-is);
@@ -22,4 +23,10 @@ module _ {setting : Setting} {n c now : ℕ} {xs ys : List ℕ} {h : List Held} 
   }
 
   pub still-told : ((t : ℕ) → registered k t ≡ registered h t) → Calendared setting n c now ys k
-  still-told f = record { sound = rw e (C .sound); width = rw e (C .width); floor = rw e (C .floor); shows = rw e (same-shows k (C .shows) i f) }
+  still-told f = record {
+    sound = rw e (C .sound);
+    arity = rw e (C .arity);
+    width = rw e (C .width);
+    floor = rw e (C .floor);
+    shows = rw e (same-shows k (C .shows) i f);
+  }

@@ -3,7 +3,7 @@ use mathlib.Core.Path.{_≡_, refl, sym, ap, _∙_, subst}
 use mathlib.Core.Logic.{_≢_, inr}
 use mathlib.Core.Option.{Option, none, some}
 use mathlib.Core.List.{List, [], _∷_, _++_}
-use Prim.Native.Nat.{ℕ, _+_, _-_, _*_, _≤_, _<_}
+use Prim.Native.Nat.{ℕ, _+_, _-_, _≤_, _<_}
 use native.Mathlib.Omega.{arith}
 use borrow.Rule.Slice.PartMut.{putMid}
 use lib.ListN.{length, take, drop, getD, set, length-set}
@@ -18,10 +18,10 @@ use Rattle.rules.proofs.Replay.Registered.{registered-at, registered-first}
 use Rattle.rings.specs.Table.{Frame}
 use Rattle.engine_rows.specs.Layout.{slotRow}
 use Rattle.entry.proofs.EntryLaws.{event-time}
-use Rattle.calendar.specs.declared.Answer.{Answer}
-use Rattle.calendar.specs.Rules.{withTime, registerChecks, registeredAt as entered, unregisterChecks, unregistered}
-use Rattle.calendar.specs.Bytes.{Sound, stateOf}
-use Rattle.calendar.specs.Promises.{Obeys}
+use Rattle.calendar_answers.specs.declared.Answer.{Answer}
+use Rattle.calendar_header.specs.Rules.{withTime, registerChecks, registeredAt as entered, unregisterChecks, unregistered}
+use Rattle.calendar_header.specs.Bytes.{Sound, stateOf}
+use Rattle.calendar_header.specs.Promises.{Obeys}
 use Rattle.engine_events.proofs.CalendarShown.{at-time, absent-time}
 use Rattle.engine_index.specs.Layout.{slotOf}
 use Rattle.engine_index.specs.Represents.{Cell, cell, ringOf, Stands, NoneIn}
@@ -34,7 +34,6 @@ use Rattle.engine_index.proofs.Rings.RingSearches.{First, first, waits}
 use Rattle.engine_index.proofs.Changes.ToRules as rules
 use Rattle.engine_index.proofs.Changes.ToRules.{least-some, least-none}
 use Rattle.engine_events.specs.Represents.{calendarAt, part, heldOf, Calendared, Untold}
-use Rattle.refusal.specs.Tests.{calendarBytes}
 use Rattle.engine_moves.specs.Steps.{Tells}
 use Rattle.engine_events.proofs.CalendarPart.{Put, part-put}
 use Rattle.engine_events.proofs.StationsKept.{stores-kept}
@@ -100,6 +99,7 @@ module _ {setting : Setting} {n c now s : ℕ} {xs : List ℕ} {h : List Held} (
   told ys P Z q =
       record {
         sound = rw P Z;
+        arity = rw (P, q) (U .arity);
         width = rw (P, q) (U .width);
         floor = rw (P, q) (U .floor);
         shows = rw (P, q) record {
@@ -111,13 +111,13 @@ module _ {setting : Setting} {n c now s : ℕ} {xs : List ℕ} {h : List Held} (
 
 -- ---- the two ways of the code
 
-abbrev After : ℕ → ℕ → ℕ → ℕ → ℕ → List ℕ → List ℕ → Type 0
-After n c s start end xs zs =
-    Frame (calendarAt n c) (calendarBytes n) xs (putMid start (end - start) xs zs) × Tells n c s xs (putMid start (end - start) xs zs)
+abbrev After : ℕ → ℕ → ℕ → ℕ → List ℕ → List ℕ → Type 0
+After n c s start xs zs =
+    Frame (calendarAt n c) (length xs) xs (putMid start (length xs - start) xs zs) × Tells n c s xs (putMid start (length xs - start) xs zs)
 
-module _ (n c s : ℕ) {start end x : ℕ} (xs zs : List ℕ) (b : s < n) (ls : start ≡ calendarAt n c) (le : end ≡ start + 32768 + 64 * n) (long : end ≤ length xs)
-    (size : length zs ≡ length (take (end - start) (drop start xs))) (next : x ≡ firstUnrun xs n c s) where
-  pub tell-none : {r : Answer} → x ≡ 0 → Obeys (λ q. unregisterChecks q s) (λ q. unregistered q s) (take (end - start) (drop start xs)) r zs → After n c s start end xs zs
+module _ (n c s : ℕ) {start x : ℕ} (xs zs : List ℕ) (b : s < n) (ls : start ≡ calendarAt n c) (long : start ≤ length xs)
+    (size : length zs ≡ length (take (length xs - start) (drop start xs))) (next : x ≡ firstUnrun xs n c s) where
+  pub tell-none : {r : Answer} → x ≡ 0 → Obeys (λ q. unregisterChecks q s) (λ q. unregistered q s) (take (length xs - start) (drop start xs)) r zs → After n c s start xs zs
   tell-none {r} e O = (
     put .1 .1,
     λ p setting now q cells S U.
@@ -127,15 +127,15 @@ module _ (n c s : ℕ) {start end x : ℕ} (xs zs : List ℕ) (b : s < n) (ls : 
         record {
           stores = stores-kept (put .1 .1) (inr (omega arith)) S;
           calendar =
-              told none b U (absent-time (registered (q .held) s) gone) (putMid start (end - start) xs zs) (put .1 .0) (O .sound (U .sound)) (O .state (U .sound) done);
+              told none b U (absent-time (registered (q .held) s) gone) (putMid start (length xs - start) xs zs) (put .1 .0) (O .sound (U .sound)) (O .state (U .sound) done);
         },
   )
     where
-      put : (take (end - start) (drop start xs) ≡ part n c xs) × Put n c xs zs (putMid start (end - start) xs zs)
-      put = part-put n c xs zs ls le long size
+      put : (take (length xs - start) (drop start xs) ≡ part n c xs) × Put n c xs zs (putMid start (length xs - start) xs zs)
+      put = part-put n c xs zs ls long size
 
   pub tell-time : {r : Answer} {i t : ℕ} → x ≢ 0 → i ≡ slotOf n x → t ≡ loadAt 8 (slotRow n i) xs
-      → Obeys (λ q. registerChecks q s t) (λ q. entered q s t) (take (end - start) (drop start xs)) r zs → After n c s start end xs zs
+      → Obeys (λ q. registerChecks q s t) (λ q. entered q s t) (take (length xs - start) (drop start xs)) r zs → After n c s start xs zs
   tell-time {r} {i} {t} d ei et O = (
     put .1 .1,
     λ p setting now q cells S U.
@@ -149,9 +149,9 @@ module _ (n c s : ℕ) {start end x : ℕ} (xs zs : List ℕ) (b : s < n) (ls : 
         record {
           stores = stores-kept (put .1 .1) (inr (omega arith)) S;
           calendar =
-              told (some t) b U (at-time (registered (q .held) s) t is) (putMid start (end - start) xs zs) (put .1 .0) (O .sound (U .sound)) (O .state (U .sound) done);
+              told (some t) b U (at-time (registered (q .held) s) t is) (putMid start (length xs - start) xs zs) (put .1 .0) (O .sound (U .sound)) (O .state (U .sound) done);
         },
   )
     where
-      put : (take (end - start) (drop start xs) ≡ part n c xs) × Put n c xs zs (putMid start (end - start) xs zs)
-      put = part-put n c xs zs ls le long size
+      put : (take (length xs - start) (drop start xs) ≡ part n c xs) × Put n c xs zs (putMid start (length xs - start) xs zs)
+      put = part-put n c xs zs ls long size

@@ -1,43 +1,22 @@
--- A new calendar, and an index with all slots free (`cleared`); where the code does nothing, the bytes have no room (`clears-fits`) or there is no slot
--- (`clears-slot`).
-use mathlib.Core.Path.{refl}
-use native.Mathlib.Omega.{arith}
-use Rattle.engine_events.proofs.Fitting.{fits-true, calendar-room}
-use Rattle.engine_moves.proofs.Changes.Cleared.{cleared, clears-fits, clears-slot}
+-- A new calendar, and an index with all slots free (`cleared`); where the code does nothing, the bytes have no room (`clears-none`).
+use Rattle.engine_events.proofs.Fitting.{part-within}
+use Rattle.engine_moves.proofs.Changes.Cleared.{cleared, clears-none}
 use borrow.Author.Needs.{needs}
 use Rattle.engine_moves.proofs.clear.Statement.{statement}
 use Rattle.engine_moves.proofs.clear.Tie as tie
 
--- the code's start
-abbrev start : tie.Then1 → tie.Start
-start c = c .before .before .before .before
-
-part-open-end : tie.Need-part-open-end
-part-open-end c =
-    let f = c .before .before in
-    let a = start f .args in
-    omega (
-      arith,
-      fits-true (a .n) (a .c) _ (f .before .fits2 .ensures) (f .if1 .taken),
-      calendar-room (a .n) (a .c) (c .before .if2 .taken),
-      c .calendar-start .ensures,
-    )
+part-open-start : tie.Need-part-open-start
+part-open-start c = part-within _ _ _ (c .calendar-start .ensures) (c .before .before .fits2 .ensures) (c .before .if1 .taken)
 
 returns : tie.Need-returns
 returns c =
     let o = c .before .before .before .before .before .before in
     let d = o .before .before in
-    let f = d .before .before in
-    let a = start f .args in
-    let r = fits-true (a .n) (a .c) _ (f .before .fits2 .ensures) (f .if1 .taken) in
-    cleared _ _ _ _ _ _ (d .before .if2 .taken) (r .0) (r .1) (r .2) (d .calendar-start .ensures) refl (o .«open» .kept .1 .1 .0) (o .«open» .ensures)
-    (c .before .before .clear .ensures .0) (c .before .before .clear .ensures .1)
+    cleared _ _ _ _ _ _ _ (d .calendar-start .ensures) (part-within _ _ _ (d .calendar-start .ensures) (d .before .before .fits2 .ensures) (d .before .if1 .taken))
+    (o .«open» .kept .1 .1 .1 .0) (o .«open» .ensures) (c .before .before .clear .ensures .0) (c .before .before .clear .ensures .1)
 
 returns-2 : tie.Need-returns-2
-returns-2 c = clears-slot _ _ _ _ (c .if2 .left)
-
-returns-3 : tie.Need-returns-3
-returns-3 c = clears-fits _ _ _ _ (c .before .fits2 .ensures) (c .if1 .left)
+returns-2 c = clears-none _ _ _ _ _ (c .before .fits2 .ensures) (c .if1 .left)
 
 pub clear-spec : {M : Type 1} → statement M
 clear-spec =
@@ -46,17 +25,12 @@ clear-spec =
     (λ c κs. search needs)
     (λ c κs. search needs)
     (λ c. search needs)
+    part-open-start
+    part-open-start
     (λ c. search needs)
-    (λ c. search needs)
-    (λ c. search needs)
-    (λ c. search needs)
-    (λ c. search needs)
-    part-open-end
     (λ c κs. search needs)
     (λ c κs. search needs)
     (λ c. search needs)
     returns
     (λ c. search needs)
-    returns-2
-    (λ c. search needs)
-    returns-3)
+    returns-2)

@@ -22,7 +22,7 @@ tell-requires c κs =
     let d = c .before .before .before in
     let t = at-station d in
     let f = found (t .before) in
-    tell-room _ _ _ (f .before .before .before .before .fits2 .ensures) (f .before .before .before .if1 .taken) (f .if2 .taken) (t .if3 .taken) (d .drop .ensures .0 .size)
+    tell-room _ _ _ (f .before .before .before .before .fits2 .ensures) (f .before .before .before .if1 .taken) (t .if3 .taken) (d .drop .ensures .0 .size)
 
 returns : tie.Need-returns
 returns c =

@@ -11,7 +11,7 @@ tell-requires c κs =
     let p = c .before .before .before in
     let s = p .before .before in
     let t = s .before in
-    tell-room _ _ _ (t .before .before .fits2 .ensures) (t .before .if1 .taken) (s .if3 .taken) (t .if2 .taken) (p .put .ensures .0 .size)
+    tell-room _ _ _ (t .before .before .fits2 .ensures) (t .before .if1 .taken) (t .if2 .taken) (p .put .ensures .0 .size)
 
 returns : tie.Need-returns
 returns c =

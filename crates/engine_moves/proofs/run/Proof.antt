@@ -34,7 +34,7 @@ tell-requires c κs =
     let t = at-station i in
     let f = found (t .before) in
     let g = fitting (f .before) in
-    tell-room _ _ _ (g .before .fits2 .ensures) (g .if1 .taken) (f .if2 .taken) (t .if3 .taken)
+    tell-room _ _ _ (g .before .fits2 .ensures) (g .if1 .taken) (t .if3 .taken)
     (run-size _ _ (start g .args .x) _ _ _ (f .before .slot-in .result) _ _ (i .set-number .ensures .0 (omega arith))
     (m .before .before .before .before .set-number2 .ensures .0 (omega arith)) (m .mark .ensures .0) (c .before .before .before .set-state .ensures))
 

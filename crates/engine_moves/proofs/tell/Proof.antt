@@ -1,5 +1,4 @@
 -- The calendar is told what stands at the first unrun node: nothing (`tell-none`), or an event's time (`tell-time`).
-use mathlib.Core.Path.{refl}
 use native.Mathlib.Omega.{arith}
 use Rattle.engine_moves.proofs.Bytes.StationTime.{tell-none, tell-time}
 use borrow.Author.Needs.{needs}
@@ -19,7 +18,7 @@ returns c =
     let t = c .before .before .before .before in
     let d = placed (t .before) in
     let s = start d in
-    tell-none _ _ _ _ _ (s .pre .3) (d .calendar-start .ensures) refl (omega (arith, s .pre, d .calendar-start .ensures))
+    tell-none _ _ _ _ _ (s .pre .2) (d .calendar-start .ensures) (omega (arith, s .pre, d .calendar-start .ensures))
     (c .before .before .unregister .kept .0) (t .before .first-unrun .ensures) (t .if1 .taken) (c .before .before .unregister .ensures)
 
 returns-2 : tie.Need-returns-2
@@ -28,7 +27,7 @@ returns-2 c =
     let e = t .before .before .before in
     let d = placed (e .before) in
     let s = start d in
-    tell-time _ _ _ _ _ (s .pre .3) (d .calendar-start .ensures) refl (omega (arith, s .pre, d .calendar-start .ensures))
+    tell-time _ _ _ _ _ (s .pre .2) (d .calendar-start .ensures) (omega (arith, s .pre, d .calendar-start .ensures))
     (c .before .before .register .kept .0) (e .before .first-unrun .ensures) (e .if1 .left) (t .before .slot .ensures) (t .time .ensures)
     (c .before .before .register .ensures)
 
@@ -37,9 +36,6 @@ tell-spec =
     tie.close
     (tie.spec
     (λ c κs. search needs)
-    (λ c. search needs)
-    (λ c. search needs)
-    (λ c. search needs)
     (λ c. search needs)
     (λ c κs. search needs)
     (λ c. search needs)

@@ -26,7 +26,7 @@ tell-requires c κs =
     let t = at-station u in
     let f = found (t .before) in
     let g = fitting (f .before) in
-    tell-room _ _ _ (g .before .fits2 .ensures) (g .if1 .taken) (f .if2 .taken) (t .if4 .taken)
+    tell-room _ _ _ (g .before .fits2 .ensures) (g .if1 .taken) (t .if4 .taken)
     (unrun-size _ _ _ (u .before .before .saved .result) _ (u .unmark .ensures .0) (c .before .before .before .set-state .ensures))
 
 returns : tie.Need-returns

@@ -2,7 +2,7 @@
 use mathlib.Core.Path.{sym, ap, _∙_}
 use borrow.Author.Needs.{needs}
 use denote.Ref.{now}
-use Rattle.calendar.specs.declared.Least.{Least}
+use Rattle.calendar_answers.specs.declared.Least.{Least}
 use Rattle.exports_codes.specs.CalendarCodes.{leastCode, found}
 use Rattle.exports_codes.proofs.calendar_codes.tell.Statement.{statement}
 use Rattle.exports_codes.proofs.calendar_codes.tell.Tie as tie
