@@ -1,8 +1,9 @@
 # The gate is `sh .ci/run`. This file has what is run by hand.
 
-.PHONY: library example test outputs fuzz benchmark benchmark-widths benchmark-calendar
+.PHONY: library example test outputs fuzz calendars benchmark benchmark-widths benchmark-shapes benchmark-calendar
 
 CASES ?= 2000
+LISTS ?= 400
 SEED ?= 1
 ROUNDS ?=
 CARGO = cargo --offline
@@ -39,6 +40,12 @@ outputs:
 fuzz: library
 	cd rust && $(CARGO) run --release --bin fuzz -- $(CASES) $(SEED)
 
+# The calendar at all four arities against the reading in Python: the calls of calendar_test, and drawn lists.
+calendars: library
+	cd rust && $(CARGO) build --release --bin fuzz
+	python3 tools/calendar.py | rust/target/release/fuzz calendars
+	python3 tools/calendar.py $(LISTS) $(SEED) | rust/target/release/fuzz calendars
+
 # The engine against a plain machine on std's BinaryHeap, in one run; ROUNDS=9 by default. With Debian's libns3-dev and
 # python3-simpy also against these.
 benchmark: library
@@ -48,6 +55,10 @@ benchmark: library
 # What a leaf width is chosen by: at each of seven, the bitmap words read a run lowest and the nanoseconds an event.
 benchmark-widths: library
 	cd rust && $(CARGO) run --release --bin benchmark -- widths $(ROUNDS)
+
+# What an arity is chosen by: the same at the four of them and seven leaf widths, on long lines; then on shorter lines, and the calendar alone.
+benchmark-shapes: library
+	cd rust && $(CARGO) run --release --bin benchmark -- shapes $(ROUNDS)
 
 # The calendar against std's BTreeSet, in one run; ROUNDS=20 by default.
 benchmark-calendar: library

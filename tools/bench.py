@@ -46,7 +46,7 @@ def answer(engine, line):
 
 def bench(text, commands):
     plan = [dict(zip(FIELDS, numbers)) for numbers, _ in stations(text)]
-    engine = Engine(plan, 64, 64)
+    engine = Engine(plan, 16, 64, 64)
     lines = commands.split(b"\n")
     if lines[-1] == b"":
         lines.pop()

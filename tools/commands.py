@@ -34,7 +34,7 @@ def command(dice, engine, count):
 
 def commands(text, seed, length):
     plan = [dict(zip(FIELDS, numbers)) for numbers, _ in stations(text)]
-    dice, engine = random.Random(seed), Engine(plan, 64, 64)
+    dice, engine = random.Random(seed), Engine(plan, 16, 64, 64)
     for _ in range(length):
         line = command(dice, engine, len(plan))
         yield line

@@ -61,10 +61,11 @@ def machine(plan, posts, until):
     return log, states
 
 
-def words_read(width, floor, times):
+def words_read(arity, width, floor, times):
     """The bitmap words that lowest reads: roots from the floor's block on to the first with a registered time, and a node; the 16 roots where none has one."""
-    first = floor // (256 * width)
-    taken = {t // (256 * width) for t in times}
+    block = width * arity * arity
+    first = floor // block
+    taken = {t // block for t in times}
     for i in range(16):
         if first + i in taken:
             return i + 1 + 1
@@ -72,8 +73,8 @@ def words_read(width, floor, times):
 
 
 class Engine:
-    def __init__(self, plan, width, capacity):
-        self.plan, self.width, self.capacity, self.next, self.now = plan, width, capacity, 0, 0
+    def __init__(self, plan, arity, width, capacity):
+        self.plan, self.arity, self.width, self.capacity, self.next, self.now = plan, arity, width, capacity, 0, 0
         self.states = initial(plan)
         self.matter, self.before, self.sends = {}, {}, {}  # all held; of the run ones
 
@@ -153,7 +154,7 @@ class Engine:
         if not self.unrun():
             return ("Refused", 14)
         least = [min((k[0] for k in self.unrun() if k[1] == s), default=None) for s in range(len(self.plan))]
-        words = words_read(self.width, self.now, [t for t in least if t is not None])
+        words = words_read(self.arity, self.width, self.now, [t for t in least if t is not None])
         said = self.run(min(self.unrun())[1])
         return ("RanLowest", *said[1:], words) if said[0] == "Ran" else said
 
@@ -198,7 +199,7 @@ def pick(dice, engine, stations, unit):
     return ("record", dice.randrange(stations))
 
 
-def scenario(seed, length, width=1, unit=1):
+def scenario(seed, length, arity=16, width=1, unit=1):
     """The seed draws times as so many units of milliseconds: the unit changes nothing but them and the counts of words read."""
     dice = random.Random(seed)
     stations = dice.choice([2, 3, 4])
@@ -214,7 +215,7 @@ def scenario(seed, length, width=1, unit=1):
         )
         for s in range(stations)
     ]
-    engine, made, posts, log = Engine(plan, width, dice.choice([10, 16, 40])), [], {}, []
+    engine, made, posts, log = Engine(plan, arity, width, dice.choice([10, 16, 40])), [], {}, []
     for _ in range(length):
         name, *words = call = pick(dice, engine, stations, unit)
         answer = getattr(engine, name)(*words)
@@ -295,17 +296,17 @@ UNFOLDING = """    settle postStep retractStep runStep stationStep lowestOf coun
     same delete place leastUnrun mark isRun undone heldPost noneUnrun unrunBefore logged kept recordOf
     decide lex before update initial send silent period runRead drawnState lose hear repeat pass runFrame runLevel runMatter runAt runEvent nextDraw"""
 
-# seed, length, leaf width, unit: the first meets eight of the numbers, the second takes back seventeen events at once; both give a frame up. The units are such
+# seed, length, arity, leaf width, unit: the first meets eight of the numbers, the second takes back seventeen events at once; both give a frame up. The units are such
 # that nine different counts of words read occur in the first and twelve in the second.
-LISTS = [(253, 70, 1, 50), (2870, 70, 2, 80)]
+LISTS = [(253, 70, 16, 1, 50), (2870, 70, 8, 8, 80)]
 
 
 def main():
     for seed in range(2000):
         scenario(seed, 120)
     out = [HEAD]
-    for k, (seed, length, width, unit) in enumerate(LISTS, 1):
-        plan, capacity, made = scenario(seed, length, width, unit)
+    for k, (seed, length, arity, width, unit) in enumerate(LISTS, 1):
+        plan, capacity, made = scenario(seed, length, arity, width, unit)
         out.append(f"""
 plan-{k} : List Config
 plan-{k} =
@@ -319,10 +320,10 @@ answers-{k} : List Answer
 answers-{k} =
     {list_of(answer_text(a) for _, a in made)}
 
-list-{k} : Gives plan-{k} (chosen {width} {capacity}) calls-{k} answers-{k}
+list-{k} : Gives plan-{k} (chosen {arity} {width} {capacity}) calls-{k} answers-{k}
 unfolding plan-{k} calls-{k} answers-{k} allIn parentOut numberOut nth pairs zeros
 {UNFOLDING}
-list-{k} = computed plan-{k} (chosen {width} {capacity}) calls-{k} answers-{k} (in-range plan-{k} tt tt tt) refl
+list-{k} = computed plan-{k} (chosen {arity} {width} {capacity}) calls-{k} answers-{k} (in-range plan-{k} tt tt tt) refl
 """)
     sys.stdout.write("".join(out))
 

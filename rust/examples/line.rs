@@ -11,8 +11,9 @@ pub fn stations() -> [Station; 3] {
 
 /// The line's hour, minute by minute: its log, and the stations' states at its end.
 pub fn hour(plan: &Plan) -> Result<(Vec<Entry>, Vec<State>), Refusal> {
-    let mut buffer = vec![0; Engine::bytes(plan.count(), 64)];
-    let mut engine = Engine::open(plan, 64, 64, &mut buffer)?;
+    // arity 16, leaf width 64, 64 held events at most
+    let mut buffer = vec![0; Engine::bytes(16, plan.count(), 64)];
+    let mut engine = Engine::open(plan, 16, 64, 64, &mut buffer)?;
     for (station, time, matter) in POSTS {
         engine.post(station, time, matter)?;
     }

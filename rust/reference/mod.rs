@@ -1,4 +1,5 @@
-// The engine and the plain machine, straight from documents 01 and 02 and as simple as can be: a sorted map of held events, a heap of waiting ones.
+// The calendar, the engine and the plain machine, straight from documents 01 and 02 and as simple as can be: a sorted set of times, a sorted map of held events, a
+// heap of waiting ones.
 #![allow(dead_code)]
 use std::cmp::Reverse;
 use std::collections::{BTreeMap, BTreeSet, BinaryHeap};
@@ -240,17 +241,113 @@ pub fn suits(n: u64, (kind, value): Matter) -> bool {
     }
 }
 
-/// How many bitmap words lowest reads: roots from the floor's block on to the first that is not zero, and a node; 16 roots where all are zero.
-pub fn words_read(width: u64, floor: u64, times: Vec<u64>) -> u64 {
-    let block = |time| time / (256 * width);
+/// What the openings refuse after the plan: 26, 6, 7. Of the stations only a calendar's can be out of range, of the places only an engine's.
+fn opening(arity: u64, width: u64, room: bool, needed: impl Fn(u64) -> u64, bytes: u64) -> Result<(), u64> {
+    if ![8, 16, 32, 64].contains(&arity) {
+        return Err(26);
+    }
+    if !(1..=1_048_576).contains(&width) {
+        return Err(6);
+    }
+    if !room || bytes < needed(128 * arity * arity) {
+        return Err(7);
+    }
+    Ok(())
+}
+
+/// What the opening of a calendar on so many bytes answers.
+pub fn open_calendar(n: u64, arity: u64, width: u64, bytes: u64) -> Result<(), u64> {
+    opening(arity, width, (1..=256).contains(&n), |blocks| blocks + 64 * n, bytes)
+}
+
+/// What the opening of an engine on so many bytes answers.
+pub fn open_engine(plan: &[u8], arity: u64, width: u64, capacity: u64, bytes: u64) -> Result<(), Wrong> {
+    let n = read_plan(plan)?.len() as u64;
+    opening(arity, width, (2..=4096).contains(&capacity), |blocks| blocks + 256 * n + 256 * capacity, bytes).map_err(|number| (number, None))
+}
+
+/// How many bitmap words lowest reads: roots from the floor's block on to the first that is not zero, and a node; 16 roots where all are zero. A block is arity
+/// squared leaves.
+pub fn words_read(arity: u64, width: u64, floor: u64, times: impl Iterator<Item = u64> + Clone) -> u64 {
+    let block = |time| time / (width * arity * arity);
     let mut read = 0;
     for root in block(floor)..block(floor) + 16 {
         read += 1;
-        if times.iter().any(|time| block(*time) == root) {
+        if times.clone().any(|time| block(time) == root) {
             return read + 1;
         }
     }
     read
+}
+
+/// Time, station and bitmap words read, or the refusal's number.
+pub type Lowest = Result<(u64, u64, u64), u64>;
+
+/// The calendar, on a set of times with their stations.
+pub struct Calendar {
+    pub n: u64,
+    pub arity: u64,
+    pub width: u64,
+    pub floor: u64,
+    pub set: BTreeSet<(u64, u64)>,
+    times: Vec<Option<u64>>,
+}
+
+impl Calendar {
+    pub fn open(n: u64, arity: u64, width: u64) -> Calendar {
+        Calendar { n, arity, width, floor: 0, set: BTreeSet::new(), times: vec![None; n as usize] }
+    }
+
+    pub fn register(&mut self, station: u64, time: u64) -> Result<(), u64> {
+        if station >= self.n {
+            return Err(9);
+        }
+        if time > H {
+            return Err(11);
+        }
+        if time < self.floor {
+            return Err(12);
+        }
+        self.unregister(station)?;
+        self.times[station as usize] = Some(time);
+        self.set.insert((time, station));
+        Ok(())
+    }
+
+    pub fn unregister(&mut self, station: u64) -> Result<(), u64> {
+        if station >= self.n {
+            return Err(9);
+        }
+        if let Some(time) = self.times[station as usize].take() {
+            self.set.remove(&(time, station));
+        }
+        Ok(())
+    }
+
+    pub fn lowest(&self) -> Lowest {
+        let (time, station) = *self.set.first().ok_or(14u64)?;
+        Ok((time, station, words_read(self.arity, self.width, self.floor, self.times.iter().copied().flatten())))
+    }
+
+    pub fn extract(&mut self) -> Lowest {
+        let found = self.lowest()?;
+        self.unregister(found.1)?;
+        Ok(found)
+    }
+
+    pub fn advance(&mut self, floor: u64) -> Result<(), u64> {
+        if floor > H + 1 {
+            return Err(11);
+        }
+        if floor < self.floor {
+            return Err(12);
+        }
+        if self.set.first().is_some_and(|x| x.0 < floor) {
+            return Err(15);
+        }
+        self.floor = floor;
+        Ok(())
+    }
 }
 
 struct Held {
@@ -261,6 +358,7 @@ struct Held {
 /// The engine by the rules of undo, remove and add.
 pub struct Engine {
     pub line: Vec<Config>,
+    pub arity: u64,
     pub width: u64,
     pub capacity: u64,
     pub next: u64,
@@ -281,8 +379,8 @@ pub fn entry(key: Key, matter: Matter) -> [u8; 24] {
 }
 
 impl Engine {
-    pub fn open(line: &[Config], width: u64, capacity: u64) -> Engine {
-        Engine { line: line.to_vec(), width, capacity, next: 0, now: 0, states: line.iter().map(first_state).collect(), held: BTreeMap::new() }
+    pub fn open(line: &[Config], arity: u64, width: u64, capacity: u64) -> Engine {
+        Engine { line: line.to_vec(), arity, width, capacity, next: 0, now: 0, states: line.iter().map(first_state).collect(), held: BTreeMap::new() }
     }
 
     fn n(&self) -> u64 {
@@ -397,7 +495,7 @@ impl Engine {
     pub fn run_lowest(&mut self) -> Result<(u64, u64, u64), u64> {
         let times = self.registered();
         let (_, station) = times.iter().map(|(s, t)| (*t, *s)).min().ok_or(14u64)?;
-        let words = words_read(self.width, self.now, times.into_values().collect());
+        let words = words_read(self.arity, self.width, self.now, times.values().copied());
         self.run(station).map(|(station, undone)| (station, undone, words))
     }
 

@@ -1,5 +1,5 @@
 //! The calendar by itself: which station has the lowest time.
-use crate::{calls, Refusal};
+use crate::{block_bytes, calls, Refusal};
 
 /// A calendar on a lent buffer.
 #[derive(Debug)]
@@ -16,15 +16,20 @@ pub struct Lowest {
 }
 
 impl<'b> Calendar<'b> {
-    /// How many bytes are enough for so many stations.
-    pub const fn bytes(stations: usize) -> usize {
-        32_768 + 64 * stations
+    /// How many bytes are enough for so many stations at one of the four arities.
+    pub const fn bytes(arity: u64, stations: usize) -> usize {
+        block_bytes(arity) + 64 * stations
     }
 
-    /// Opens a calendar without registered stations, with its floor at 0. Refusals: 6, 7.
-    pub fn open(stations: u64, width: u64, buffer: &'b mut [u8]) -> Result<Calendar<'b>, Refusal> {
-        calls::open_calendar(stations, width, buffer)?;
+    /// Opens a calendar of that arity and leaf width, without registered stations, with its floor at 0. Refusals: 26, 6, 7.
+    pub fn open(stations: u64, arity: u64, width: u64, buffer: &'b mut [u8]) -> Result<Calendar<'b>, Refusal> {
+        calls::open_calendar(stations, arity, width, buffer)?;
         Ok(Calendar { bytes: buffer })
+    }
+
+    /// Goes on with a buffer that a calendar has left. On other bytes every call still ends and stays in the buffer, with answers that mean nothing.
+    pub fn resume(buffer: &'b mut [u8]) -> Calendar<'b> {
+        Calendar { bytes: buffer }
     }
 
     /// Registers a station, or moves it. Refusals: 9, 11, 12.

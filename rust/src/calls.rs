@@ -8,14 +8,14 @@ extern "C" {
     fn plan_read(plan: *const u8, plan_len: usize, stations: *mut Station, len: usize, at: *mut [u64; 2]) -> u64;
     fn plan_write(stations: *const Station, len: usize, n: u64, out: *mut u8, out_len: usize, at: *mut [u64; 2]) -> u64;
     fn plan_name(plan: *const u8, plan_len: usize, station: u64, at: *mut [u64; 2]) -> u64;
-    fn engine_open(plan: *const u8, plan_len: usize, width: u64, capacity: u64, b: *mut u8, len: usize, at: *mut [u64; 2]) -> u64;
+    fn engine_open(plan: *const u8, plan_len: usize, arity: u64, width: u64, capacity: u64, b: *mut u8, len: usize, at: *mut [u64; 2]) -> u64;
     fn engine_post(b: *mut u8, len: usize, station: u64, time: u64, kind: u64, value: u64, at: *mut [u64; 2]) -> u64;
     fn engine_retract(b: *mut u8, len: usize, number: u64, at: *mut [u64; 2]) -> u64;
     fn engine_run_station(b: *mut u8, len: usize, station: u64, at: *mut [u64; 2]) -> u64;
     fn engine_run_lowest(b: *mut u8, len: usize, at: *mut [u64; 3]) -> u64;
     fn engine_commit(b: *mut u8, len: usize, time: u64, out: *mut u8, out_len: usize, at: *mut [u64; 2]) -> u64;
     fn engine_record(b: *const u8, len: usize, station: u64, at: *mut [u64; 7]) -> u64;
-    fn calendar_open(n: u64, width: u64, b: *mut u8, len: usize) -> u64;
+    fn calendar_open(n: u64, arity: u64, width: u64, b: *mut u8, len: usize) -> u64;
     fn calendar_register(b: *mut u8, len: usize, station: u64, time: u64) -> u64;
     fn calendar_unregister(b: *mut u8, len: usize, station: u64) -> u64;
     fn calendar_lowest(b: *const u8, len: usize, at: *mut [u64; 3]) -> u64;
@@ -54,8 +54,8 @@ pub fn name(plan: &[u8], station: u64) -> Result<[u64; 2], Refusal> {
     answer(|at| unsafe { plan_name(plan.as_ptr(), plan.len(), station, at) })
 }
 
-pub fn open(plan: &[u8], width: u64, capacity: u64, b: &mut [u8]) -> Result<[u64; 2], Refusal> {
-    answer(|at| unsafe { engine_open(plan.as_ptr(), plan.len(), width, capacity, b.as_mut_ptr(), b.len(), at) })
+pub fn open(plan: &[u8], arity: u64, width: u64, capacity: u64, b: &mut [u8]) -> Result<[u64; 2], Refusal> {
+    answer(|at| unsafe { engine_open(plan.as_ptr(), plan.len(), arity, width, capacity, b.as_mut_ptr(), b.len(), at) })
 }
 
 pub fn post(b: &mut [u8], station: u64, time: u64, kind: u64, value: u64) -> Result<[u64; 2], Refusal> {
@@ -82,8 +82,8 @@ pub fn record(b: &[u8], station: u64) -> Result<[u64; 7], Refusal> {
     answer(|at| unsafe { engine_record(b.as_ptr(), b.len(), station, at) })
 }
 
-pub fn open_calendar(n: u64, width: u64, b: &mut [u8]) -> Result<(), Refusal> {
-    done(unsafe { calendar_open(n, width, b.as_mut_ptr(), b.len()) })
+pub fn open_calendar(n: u64, arity: u64, width: u64, b: &mut [u8]) -> Result<(), Refusal> {
+    done(unsafe { calendar_open(n, arity, width, b.as_mut_ptr(), b.len()) })
 }
 
 pub fn register(b: &mut [u8], station: u64, time: u64) -> Result<(), Refusal> {

@@ -7,8 +7,9 @@
 //! use jambfennel::{Engine, Matter};
 //! # fn main() -> Result<(), jambfennel::Refusal> {
 //! let plan = std::fs::read("plan.bin").unwrap_or_default();
-//! let mut buffer = vec![0; Engine::bytes(2, 64)];
-//! let mut engine = Engine::open(&plan, 64, 64, &mut buffer)?;
+//! // two stations, arity 16, leaf width 64, 64 held events at most
+//! let mut buffer = vec![0; Engine::bytes(16, 2, 64)];
+//! let mut engine = Engine::open(&plan, 16, 64, 64, &mut buffer)?;
 //! engine.post(1, 0, Matter::Reading)?;
 //! while engine.run_lowest().is_ok_and(|run| run.undone == 0) {
 //!     let mut output = [0; 64 * 24];
@@ -36,6 +37,18 @@ pub const HORIZON: u64 = 1_099_511_627_775;
 
 /// The source of a post.
 pub const POSTED: u16 = 65_535;
+
+/// The arities that an opening takes. A calendar's ring is 16 blocks of arity squared leaves, so it covers 16 times arity squared times the leaf width, in ms; later
+/// times wait in its overflow table. Every other number is refused with 26.
+pub const ARITIES: [u64; 4] = [8, 16, 32, 64];
+
+// The calendar's bytes but for the stations'. None at an arity that is refused, so that a buffer for it can still be made.
+pub(crate) const fn block_bytes(arity: u64) -> usize {
+    match arity {
+        8 | 16 | 32 | 64 => 128 * (arity * arity) as usize,
+        _ => 0,
+    }
+}
 
 /// Why a call did nothing: the paper's number, and the station for 2, 4 and 5.
 #[derive(Clone, Copy, PartialEq, Eq, Debug)]
@@ -65,6 +78,7 @@ impl fmt::Display for Refusal {
             16 => "a count would pass 32 bits",
             17 => "too few places are free",
             18 => "the output is too short",
+            26 => "the arity is not 8, 16, 32 or 64",
             _ => "unknown",
         };
         write!(f, "refusal {}: {}", self.number, text)?;
@@ -115,7 +129,8 @@ pub struct Run {
     pub undone: u64,
 }
 
-/// An accepted run of the lowest, with how many bitmap words were read to find it: 2 to 17, by the leaf width. `make benchmark-widths` has a table of means.
+/// An accepted run of the lowest, with how many bitmap words were read to find it: 2 to 17, by the arity and the leaf width. `make benchmark-widths` and `make
+/// benchmark-shapes` have tables of means.
 #[derive(Clone, Copy, PartialEq, Eq, Debug)]
 pub struct RunLowest {
     pub station: u64,
@@ -207,14 +222,15 @@ pub struct Engine<'b> {
 }
 
 impl<'b> Engine<'b> {
-    /// How many bytes are enough for so many stations and held events.
-    pub const fn bytes(stations: usize, capacity: usize) -> usize {
-        32_768 + 256 * stations + 256 * capacity
+    /// How many bytes are enough for so many stations and held events at one of the four arities.
+    pub const fn bytes(arity: u64, stations: usize, capacity: usize) -> usize {
+        block_bytes(arity) + 256 * stations + 256 * capacity
     }
 
-    /// Opens a plan, with a calendar of that leaf width. No answer of a call after it depends on what the buffer held, and none but the words of `run_lowest` on the width. Refusals: 1 to 5, 6, 7.
-    pub fn open(plan: &(impl AsRef<[u8]> + ?Sized), width: u64, capacity: u64, buffer: &'b mut [u8]) -> Result<Engine<'b>, Refusal> {
-        calls::open(plan.as_ref(), width, capacity, buffer)?;
+    /// Opens a plan, with a calendar of that arity (8, 16, 32 or 64) and leaf width. No answer of a call after it depends on what the buffer held, and none but the
+    /// words of `run_lowest` on the arity and the width. Refusals: 1 to 5, 26, 6, 7.
+    pub fn open(plan: &(impl AsRef<[u8]> + ?Sized), arity: u64, width: u64, capacity: u64, buffer: &'b mut [u8]) -> Result<Engine<'b>, Refusal> {
+        calls::open(plan.as_ref(), arity, width, capacity, buffer)?;
         Ok(Engine { bytes: buffer })
     }
 

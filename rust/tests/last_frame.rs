@@ -9,8 +9,8 @@ fn with_engine(noise: u32, calls: impl FnOnce(Engine)) {
     let station = Station::new(Config { parent: 0, calm: 1000, spring: 200, threshold: 5000, hop: 30, noise, seed: 1 }, b"");
     let mut bytes = [0; Plan::bytes_for(2)];
     let plan = Plan::write(&[station, station], &mut bytes).unwrap();
-    let mut buffer = vec![0xA5; Engine::bytes(2, 8)];
-    calls(Engine::open(&plan, 64, 8, &mut buffer).unwrap());
+    let mut buffer = vec![0xA5; Engine::bytes(16, 2, 8)];
+    calls(Engine::open(&plan, 16, 64, 8, &mut buffer).unwrap());
 }
 
 fn run(engine: &mut Engine, times: usize) {

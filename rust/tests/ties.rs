@@ -1,13 +1,16 @@
-//! Ties (document 02, change 3): of the stations of the lowest time the lowest-numbered one is named, whatever the leaf width and whatever the buffers held.
+//! Ties (document 02, change 3): of the stations of the lowest time the lowest-numbered one is named, whatever the arity, the leaf width and what the buffers held.
 use jambfennel::calendar::{Calendar, Lowest};
-use jambfennel::{Config, Engine, Entry, Matter, Plan, Refusal, Station};
+use jambfennel::{Config, Engine, Entry, Matter, Plan, Refusal, Station, ARITIES};
 
-const WIDTHS: [u64; 4] = [1, 64, 1000, 1_048_576];
+/// Arities and leaf widths, with how many ms the ring covers: 16 blocks of arity squared leaves.
+fn shapes() -> impl Iterator<Item = (u64, u64, u64)> {
+    ARITIES.into_iter().flat_map(|arity| [1, 64, 1000, 1_048_576].map(|width| (arity, width, 16 * arity * arity * width)))
+}
 
 /// A calendar with stations 200, 3 and 9 registered at one time.
-fn tied(width: u64, time: u64, calls: impl FnOnce(Calendar)) {
-    let mut buffer = vec![0xA5; Calendar::bytes(256)];
-    let mut calendar = Calendar::open(256, width, &mut buffer).unwrap();
+fn tied(arity: u64, width: u64, time: u64, calls: impl FnOnce(Calendar)) {
+    let mut buffer = vec![0xA5; Calendar::bytes(arity, 256)];
+    let mut calendar = Calendar::open(256, arity, width, &mut buffer).unwrap();
     [200, 3, 9].iter().for_each(|s| calendar.register(*s, time).unwrap());
     calls(calendar);
 }
@@ -27,20 +30,19 @@ fn taken_in_order(mut calendar: Calendar, time: u64) {
 
 #[test]
 fn in_a_leaf_and_in_the_overflow_table() {
-    for width in WIDTHS {
-        // the ring covers 4096 leaves
-        for time in [0, 100, 4096 * width - 1, 4096 * width, 1_099_511_627_775] {
-            tied(width, time, |calendar| taken_in_order(calendar, time));
+    for (arity, width, ring) in shapes() {
+        for time in [0, 100, ring - 1, ring, 1_099_511_627_775] {
+            tied(arity, width, time, |calendar| taken_in_order(calendar, time));
         }
     }
 }
 
 #[test]
 fn brought_in_by_an_advance() {
-    for width in WIDTHS {
-        let time = 5000 * width;
-        tied(width, time, |mut calendar| {
-            calendar.advance(2000 * width).unwrap();
+    for (arity, width, ring) in shapes() {
+        let time = ring + ring / 4;
+        tied(arity, width, time, |mut calendar| {
+            calendar.advance(ring / 2).unwrap();
             taken_in_order(calendar, time);
         });
     }
@@ -48,9 +50,9 @@ fn brought_in_by_an_advance() {
 
 #[test]
 fn moved_away_and_back() {
-    for width in WIDTHS {
-        for time in [500, 5000 * width] {
-            tied(width, time, |mut calendar| {
+    for (arity, width, ring) in shapes() {
+        for time in [500, ring + ring / 4] {
+            tied(arity, width, time, |mut calendar| {
                 calendar.register(3, time + 1).unwrap();
                 assert_eq!(named(calendar.lowest()), (time, 9));
                 calendar.register(3, time).unwrap();
@@ -61,18 +63,18 @@ fn moved_away_and_back() {
 }
 
 /// Two stations, opened in a buffer of such bytes.
-fn with_engine(width: u64, capacity: u64, held: u8, calls: impl FnOnce(Engine)) {
+fn with_engine(arity: u64, width: u64, capacity: u64, held: u8, calls: impl FnOnce(Engine)) {
     let station = Station::new(Config { parent: 0, calm: 1000, spring: 200, threshold: 5000, hop: 30, noise: 0, seed: 1 }, b"");
     let mut bytes = [0; Plan::bytes_for(2)];
     let plan = Plan::write(&[station, station], &mut bytes).unwrap();
-    let mut buffer = vec![held; Engine::bytes(2, capacity as usize)];
-    calls(Engine::open(&plan, width, capacity, &mut buffer).unwrap());
+    let mut buffer = vec![held; Engine::bytes(arity, 2, capacity as usize)];
+    calls(Engine::open(&plan, arity, width, capacity, &mut buffer).unwrap());
 }
 
 /// The lists of rules_worked/proofs/Ties.
 #[test]
 fn run_lowest_runs_the_lower_station() {
-    with_engine(64, 8, 0, |mut engine| {
+    with_engine(16, 64, 8, 0, |mut engine| {
         engine.post(1, 5, Matter::Level(1)).unwrap();
         engine.post(0, 5, Matter::Level(1)).unwrap();
         assert_eq!(engine.run_lowest().unwrap().station, 0);
@@ -83,7 +85,7 @@ fn run_lowest_runs_the_lower_station() {
 
 #[test]
 fn a_refused_one_is_that_stations() {
-    with_engine(64, 2, 0, |mut engine| {
+    with_engine(16, 64, 2, 0, |mut engine| {
         engine.post(1, 0, Matter::Reading).unwrap();
         engine.post(0, 0, Matter::Level(7)).unwrap();
         assert_eq!(engine.run_lowest().unwrap().station, 0);
@@ -91,12 +93,13 @@ fn a_refused_one_is_that_stations() {
     });
 }
 
-/// Two printouts of one plan: every answer and every entry, in words. The counts of bitmap words read stand apart, since they alone go by the leaf width.
+/// Two printouts of one plan: every answer and every entry, in words. The counts of bitmap words read stand apart, since they alone go by the arity and the
+/// leaf width.
 #[test]
 fn two_printouts_are_the_same() {
-    let printout = |width, held: u8| {
+    let printout = |arity, width, held: u8| {
         let (mut lines, mut counts) = (vec![], vec![]);
-        with_engine(width, 16, held, |mut engine| {
+        with_engine(arity, width, 16, held, |mut engine| {
             // both stations are due at each of these times; 70 and 90 come late
             for time in [0, 40, 100, 70, 90, 130] {
                 for (station, matter) in [(1, Matter::Reading), (0, Matter::Level(9)), (0, Matter::Frame { origin: 1, repeats: 0 })] {
@@ -115,10 +118,10 @@ fn two_printouts_are_the_same() {
         });
         (lines, counts)
     };
-    let (first, counts) = printout(1, 0);
+    let (first, counts) = printout(16, 1, 0);
     assert!(first.iter().any(|line| line.contains("Entry")) && first.iter().any(|line| line.contains("17")));
-    assert_eq!(printout(1, 0xFF), (first.clone(), counts));
-    for (width, held) in [(64, 0), (1000, 0xA5), (1_048_576, 7)] {
-        assert_eq!(printout(width, held).0, first);
+    assert_eq!(printout(16, 1, 0xFF), (first.clone(), counts));
+    for (arity, width, held) in [(16, 64, 0), (16, 1000, 0xA5), (16, 1_048_576, 7), (8, 1, 0x5A), (32, 1, 0xFF), (64, 1, 1), (64, 1_048_576, 0)] {
+        assert_eq!(printout(arity, width, held).0, first);
     }
 }

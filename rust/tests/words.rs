@@ -1,19 +1,19 @@
-//! Bitmap words read (document 02, change 5), on numbers worked out by hand: a block is 256 leaves, and the ring the 16 blocks from the floor's. The engine's
-//! lists are those of rules_worked/proofs/Words.
+//! Bitmap words read (document 02, change 5), on numbers worked out by hand: at arity 16 a block is 256 leaves, and the ring the 16 blocks from the floor's. The
+//! engine's lists are those of rules_worked/proofs/Words.
 use jambfennel::{Calendar, Engine, Matter, Refusal, RunLowest};
 
 const PLAN: &[u8] = include_bytes!("../../crates/bench/data/plan.bin");
 
 /// An engine of the bench program's plan.
-fn with_engine(width: u64, capacity: u64, calls: impl FnOnce(Engine)) {
-    let mut buffer = vec![0xA5; Engine::bytes(2, capacity as usize)];
-    calls(Engine::open(PLAN, width, capacity, &mut buffer).unwrap());
+fn with_engine(arity: u64, width: u64, capacity: u64, calls: impl FnOnce(Engine)) {
+    let mut buffer = vec![0xA5; Engine::bytes(arity, 2, capacity as usize)];
+    calls(Engine::open(PLAN, arity, width, capacity, &mut buffer).unwrap());
 }
 
 /// The bench program's worked list: what its five runs answer.
-fn bench(width: u64) -> Vec<RunLowest> {
+fn bench(arity: u64, width: u64) -> Vec<RunLowest> {
     let mut runs = vec![];
-    with_engine(width, 64, |mut engine| {
+    with_engine(arity, width, 64, |mut engine| {
         engine.post(1, 0, Matter::Reading).unwrap();
         (0..3).for_each(|_| runs.push(engine.run_lowest().unwrap()));
         engine.post(1, 500, Matter::Level(5000)).unwrap();
@@ -27,15 +27,19 @@ fn bench(width: u64) -> Vec<RunLowest> {
 #[test]
 fn the_worked_list() {
     let of = |words: [u64; 5]| [1, 0, 1, 1, 1].iter().zip(words).map(|(&station, words)| RunLowest { station, undone: 0, words }).collect::<Vec<_>>();
-    assert_eq!(bench(1), of([2, 2, 5, 3, 5]));
-    assert_eq!(bench(2), of([2, 2, 3, 2, 3]));
-    assert_eq!(bench(64), of([2, 2, 2, 2, 2]));
+    assert_eq!(bench(16, 1), of([2, 2, 5, 3, 5]));
+    assert_eq!(bench(16, 2), of([2, 2, 3, 2, 3]));
+    assert_eq!(bench(16, 64), of([2, 2, 2, 2, 2]));
+    // a block of 64 ms, of 1024 and of 4096
+    assert_eq!(bench(8, 1), of([2, 2, 17, 9, 17]));
+    assert_eq!(bench(32, 1), of([2, 2, 2, 2, 2]));
+    assert_eq!(bench(64, 1), of([2, 2, 2, 2, 2]));
 }
 
 /// The count of a level at some time, run when these commits have raised the floor.
 fn counted(time: u64, commits: &[u64]) -> u64 {
     let mut words = 0;
-    with_engine(1, 8, |mut engine| {
+    with_engine(16, 1, 8, |mut engine| {
         engine.post(0, time, Matter::Level(1)).unwrap();
         commits.iter().for_each(|commit| assert_eq!(engine.commit(*commit, &mut []).unwrap().len(), 0));
         words = engine.run_lowest().unwrap().words;
@@ -60,7 +64,7 @@ fn in_the_ring_and_after_it() {
 /// The count is that of the state before the run; a station counts with its lowest time alone, and the other stations' times after it count for nothing.
 #[test]
 fn of_what_the_run_finds() {
-    with_engine(1, 8, |mut engine| {
+    with_engine(16, 1, 8, |mut engine| {
         for (station, time) in [(1, 700), (0, 300), (1, 1500)] {
             engine.post(station, time, Matter::Level(1)).unwrap();
         }
@@ -71,7 +75,7 @@ fn of_what_the_run_finds() {
 
 #[test]
 fn a_refusal_has_none() {
-    with_engine(1, 2, |mut engine| {
+    with_engine(16, 1, 2, |mut engine| {
         let refused: Result<RunLowest, Refusal> = engine.run_lowest();
         assert_eq!(refused.unwrap_err(), Refusal { number: 14, station: None });
         engine.post(1, 0, Matter::Reading).unwrap();
@@ -80,12 +84,12 @@ fn a_refusal_has_none() {
     });
 }
 
-/// Two engines whose leaf widths differ: the counts alone tell them apart.
+/// Engines whose arities or leaf widths differ: the counts alone tell them apart.
 #[test]
-fn other_widths_differ_in_the_count_alone() {
-    let answers = |width| {
+fn other_shapes_differ_in_the_count_alone() {
+    let answers = |arity, width| {
         let (mut answers, mut counts) = (vec![], vec![]);
-        with_engine(width, 16, |mut engine| {
+        with_engine(arity, width, 16, |mut engine| {
             for time in [0, 900, 300, 2000, 1100, 6000, 5000] {
                 answers.push(engine.post(1, time, Matter::Reading).map(|posted| (posted.number, posted.undone)));
                 for _ in 0..4 {
@@ -98,16 +102,16 @@ fn other_widths_differ_in_the_count_alone() {
         });
         (answers, counts)
     };
-    let (first, counts) = answers(1);
+    let (first, counts) = answers(16, 1);
     assert!(counts.iter().all(|words| (2..=17).contains(words)) && counts.iter().any(|words| *words > 5));
-    for width in [2, 64, 1_048_576] {
-        let (same, other) = answers(width);
+    for (arity, width) in [(16, 2), (16, 64), (16, 1_048_576), (8, 1), (32, 1), (64, 1)] {
+        let (same, other) = answers(arity, width);
         assert_eq!(same, first);
         assert!(other != counts && other.len() == counts.len());
     }
 }
 
-/// The calendar's edges at leaf width 64: a block is 16384 ms. The time is registered at the floor 0, and the floor raised after that.
+/// The calendar's edges at arity 16 and leaf width 64: a block is 16384 ms. The time is registered at the floor 0, and the floor raised after that.
 #[test]
 fn the_calendars() {
     for (floor, time, words) in [
@@ -124,8 +128,8 @@ fn the_calendars() {
         (245_760, 262_144, 3),
         (262_144, 262_144, 2),
     ] {
-        let mut buffer = vec![0xA5; Calendar::bytes(2)];
-        let mut calendar = Calendar::open(2, 64, &mut buffer).unwrap();
+        let mut buffer = vec![0xA5; Calendar::bytes(16, 2)];
+        let mut calendar = Calendar::open(2, 16, 64, &mut buffer).unwrap();
         calendar.register(1, time).unwrap();
         calendar.advance(floor).unwrap();
         let lowest = calendar.lowest().unwrap();

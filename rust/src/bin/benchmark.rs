@@ -2,11 +2,12 @@
 //!
 //!     make benchmark [ROUNDS=9]
 //!     make benchmark-widths [ROUNDS=9]
+//!     make benchmark-shapes [ROUNDS=9]
 //!
 //! Every figure is nanoseconds a committed event, the median of the rounds; in each round every machine of a row takes its turn, and a ratio is the median of the
 //! rounds' ratios. The engine runs lowest in batches of 32 events and commits at every whole interval of simulated time that it can. The heap steps to the same times
 //! and writes the same 24 bytes an event. Where Debian's libns3-dev and python3-simpy are installed, the same line on ns-3's core and on SimPy has a column (benchmarks/line_ns3.cc, line_simpy.py).
-use jambfennel::{Calendar, Engine, Matter};
+use jambfennel::{Calendar, Engine, Matter, ARITIES};
 use std::cmp::Reverse;
 use std::collections::BinaryHeap;
 use std::hint::black_box;
@@ -29,6 +30,10 @@ struct Work {
 
 const MINUTE: u64 = 60_000;
 const PERIOD: u64 = 300_000;
+/// The arity of every table but that of the shapes.
+const ARITY: u64 = 16;
+/// One frame in twenty.
+const NOISE: u32 = 107_374_182;
 
 impl Work {
     fn line(&self) -> Vec<Config> {
@@ -73,11 +78,11 @@ impl Took {
 }
 
 /// The engine; late posts undo `percent` of the events that are run.
-fn engine(work: &Work, capacity: u64, width: u64, percent: u64, events: u64) -> Option<Took> {
+fn engine(work: &Work, capacity: u64, arity: u64, width: u64, percent: u64, events: u64) -> Option<Took> {
     let line = work.line();
-    let mut buffer = vec![0; Engine::bytes(line.len(), capacity as usize)];
+    let mut buffer = vec![0; Engine::bytes(arity, line.len(), capacity as usize)];
     let mut output = vec![0; 24 * capacity as usize];
-    let mut engine = Engine::open(&reference::plan_bytes(&line), width, capacity, &mut buffer).ok()?;
+    let mut engine = Engine::open(&reference::plan_bytes(&line), arity, width, capacity, &mut buffer).ok()?;
     for (station, time) in work.posts() {
         engine.post(station, time, Matter::Reading).ok()?;
     }
@@ -154,9 +159,9 @@ fn other(program: &str, script: Option<&str>, work: &Work, events: u64) -> Optio
 }
 
 /// The calendar alone: lowest, extract and register a cycle.
-fn calendar(n: u64, width: u64, cycles: u64) -> f64 {
-    let mut buffer = vec![0; Calendar::bytes(n as usize)];
-    let mut calendar = Calendar::open(n, width, &mut buffer).unwrap();
+fn calendar(n: u64, arity: u64, width: u64, cycles: u64) -> f64 {
+    let mut buffer = vec![0; Calendar::bytes(arity, n as usize)];
+    let mut calendar = Calendar::open(n, arity, width, &mut buffer).unwrap();
     let mut dice = Dice(11);
     for s in 0..n {
         calendar.register(s, dice.below(PERIOD)).unwrap();
@@ -237,46 +242,91 @@ fn cell(x: Option<f64>) -> String {
     x.map_or("-".into(), |x| format!("{x:.0}"))
 }
 
-/// One line alone, for a profiler: `valgrind --tool=callgrind benchmark profile engine 50000`, or heap.
-fn profile(which: &str, events: u64) {
-    let work = Work { n: 256, fan: 4, noise: 107_374_182, readers: 255, interval: MINUTE };
-    let took = if which == "heap" { heap(&work, &[], events) } else { engine(&work, 4096, 64, 0, events).unwrap() };
+/// The lines of 256 stations that all read, with noise: a tree of 4 and a chain.
+const LONG: [(&str, Work); 2] = [
+    ("tree of 4", Work { n: 256, fan: 4, noise: NOISE, readers: 255, interval: MINUTE }),
+    ("chain", Work { n: 256, fan: 1, noise: NOISE, readers: 255, interval: 7_500 }),
+];
+
+/// One line alone, for a profiler: `valgrind --tool=callgrind benchmark profile engine 50000`, or heap, or calendar. Another arity than 16 may follow.
+fn profile(which: &str, events: u64, arity: u64) {
+    let work = LONG[0].1;
+    let took = match which {
+        "heap" => heap(&work, &[], events),
+        "calendar" => return println!("{events} cycles, {:.0} ns each", calendar(work.n, arity, 64, events)),
+        _ => engine(&work, 4096, arity, 64, 0, events).unwrap(),
+    };
     println!("{} events, {:.0} ns each", took.events, took.each());
+}
+
+/// The bitmap words read a run lowest and the nanoseconds an event, for each of N columns in turn.
+fn read_and_took<const N: usize>(rounds: usize, turn: impl Fn(usize) -> Option<Took>) -> String {
+    let mut read = [None; N];
+    let row: [Rounds; N] = rounds_of(rounds, |k| {
+        let took = turn(k)?;
+        read[k] = Some(took.words_each());
+        Some(took.each())
+    });
+    let cells: Vec<String> = row.iter().zip(read).map(|(took, read)| format!("{} | {}", read.map_or("-".into(), |x| format!("{x:.2}")), took.cell())).collect();
+    cells.join(" | ")
 }
 
 /// What a leaf width is chosen by: the bitmap words read a run lowest, and the nanoseconds an event.
 fn widths(rounds: usize) {
-    let works = [(4, MINUTE), (1, 7_500)].map(|(fan, interval)| Work { n: 256, fan, noise: 107_374_182, readers: 255, interval });
     println!("| 256 stations, capacity 4096, noise 5 % | tree of 4: words read | ns an event | chain: words read | ns an event |\n|---|---|---|---|---|");
     for width in (0..7).map(|k| 4u64.pow(k)) {
-        let mut read = [None; 2];
-        let row: [Rounds; 2] = rounds_of(rounds, |k| {
-            let took = engine(&works[k], 4096, width, 0, 200_000)?;
-            read[k] = Some(took.words_each());
-            Some(took.each())
-        });
-        let cells = [0, 1].map(|k| format!("{} | {}", read[k].map_or("-".into(), |x| format!("{x:.2}")), row[k].cell()));
-        println!("| w {width} | {} |", cells.join(" | "));
+        println!("| w {width} | {} |", read_and_took::<2>(rounds, |k| engine(&LONG[k].1, 4096, ARITY, width, 0, 200_000)));
+    }
+}
+
+/// What an arity is chosen by: the same at the four of them, on long lines; then lines of other lengths, and the calendar alone.
+fn shapes(rounds: usize) {
+    for (shape, work) in LONG {
+        println!("| {shape}, 256 stations, capacity 4096, noise 5 % | arity 8: words read | ns an event | 16: words read | ns | 32: words read | ns | 64: words read | ns |");
+        println!("|---|---|---|---|---|---|---|---|---|");
+        for width in (0..7).map(|k| 4u64.pow(k)) {
+            println!("| w {width} | {} |", read_and_took::<4>(rounds, |k| engine(&work, 4096, ARITIES[k], width, 0, 200_000)));
+        }
+        println!();
+    }
+    println!("| tree of 4, w 64, noise 5 % | capacity | bytes at arity 8 | ns an event | 16: bytes | ns | 32: bytes | ns | 64: bytes | ns | 8 / 16 | 64 / 16 |");
+    println!("|---|---|---|---|---|---|---|---|---|---|---|---|");
+    for (n, readers, capacity, interval) in [(2, 1, 16, PERIOD), (4, 3, 16, MINUTE), (16, 15, 64, 30_000), (64, 63, 512, MINUTE), (256, 255, 4096, MINUTE)] {
+        let work = Work { n, fan: 4, noise: NOISE, readers, interval };
+        let row: [Rounds; 4] = rounds_of(rounds, |k| engine(&work, capacity, ARITIES[k], 64, 0, 200_000).map(|t| t.each()));
+        let cells: Vec<String> = row.iter().zip(ARITIES).map(|(took, arity)| format!("{} | {}", Engine::bytes(arity, n as usize, capacity as usize), took.cell())).collect();
+        println!("| {n} stations, {readers} reading | {capacity} | {} | {} | {} |", cells.join(" | "), row[0].ratio(&row[1]), row[3].ratio(&row[1]));
+    }
+    println!("\n| calendar alone, extract and register | w | arity 8 | 16 | 32 | 64 | heap | 8 / 16 | 64 / 16 |\n|---|---|---|---|---|---|---|---|---|");
+    for n in [2, 16, 64, 256] {
+        for width in [1, 64, 4096] {
+            let row: [Rounds; 5] = rounds_of(rounds, |k| Some(if k < 4 { calendar(n, ARITIES[k], width, 200_000) } else { times(n, 200_000) }));
+            let cells: Vec<String> = row.iter().map(Rounds::cell).collect();
+            println!("| {n} stations | {width} | {} | {} | {} |", cells.join(" | "), row[0].ratio(&row[1]), row[3].ratio(&row[1]));
+        }
     }
 }
 
 fn main() {
     let words: Vec<String> = std::env::args().collect();
     if let [_, chosen, rest @ ..] = &words[..] {
-        if chosen == "widths" {
-            return widths(rest.first().map_or(9, |a| a.parse().expect("a number of rounds")));
+        let rounds = || rest.first().map_or(9, |a| a.parse().expect("a number of rounds"));
+        match chosen.as_str() {
+            "widths" => return widths(rounds()),
+            "shapes" => return shapes(rounds()),
+            _ => {}
         }
     }
-    if let [_, profiled, which, events] = &words[..] {
+    if let [_, profiled, which, events, arity @ ..] = &words[..] {
         assert_eq!(profiled, "profile");
-        return profile(which, events.parse().expect("a number of events"));
+        return profile(which, events.parse().expect("a number of events"), arity.first().map_or(ARITY, |a| a.parse().expect("an arity")));
     }
     let rounds = std::env::args().nth(1).map_or(9, |a| a.parse().expect("a number of rounds"));
     let events = 200_000;
     println!("| stations | shape | noise | capacity | interval | readers | engine | heap | engine / heap |\n|---|---|---|---|---|---|---|---|---|");
     for n in [16, 64, 256] {
         for (shape, fan) in [("chain", 1), ("tree of 4", 4)] {
-            for (share, noise) in [("0", 0), ("5 %", 107_374_182)] {
+            for (share, noise) in [("0", 0), ("5 %", NOISE)] {
                 for capacity in [64, 512, 4096] {
                     // what is run between two commits has to fit: fewer readers for few places, shorter intervals for long ways
                     let hops = if fan == 1 { n } else { 4 };
@@ -286,7 +336,7 @@ fn main() {
                         interval /= 2;
                     }
                     let work = Work { n, fan, noise, readers, interval };
-                    let [a, b] = rounds_of(rounds, |k| if k == 0 { engine(&work, capacity, 64, 0, events).map(|t| t.each()) } else { Some(heap(&work, &[], events).each()) });
+                    let [a, b] = rounds_of(rounds, |k| if k == 0 { engine(&work, capacity, ARITY, 64, 0, events).map(|t| t.each()) } else { Some(heap(&work, &[], events).each()) });
                     println!("| {n} | {shape} | {share} | {capacity} | {interval} | {readers} | {} | {} | {} |", a.cell(), b.cell(), a.ratio(&b));
                 }
             }
@@ -295,25 +345,24 @@ fn main() {
     println!("\n| one line at | capacity 64 | 512 | 4096 | 4096 / 64 |\n|---|---|---|---|---|");
     for (n, fan, shape) in [(2, 1, "2 stations"), (16, 4, "16, tree of 4"), (32, 4, "32, tree of 4"), (64, 4, "64, tree of 4"), (256, 4, "256, tree of 4"), (16, 1, "16, chain")] {
         let readers = 15.min(n - 1);
-        let work = Work { n, fan, noise: 107_374_182, readers, interval: 30_000 };
-        let [a, b, c] = rounds_of(rounds, |k| engine(&work, [64, 512, 4096][k], 64, 0, events).map(|t| t.each()));
+        let work = Work { n, fan, noise: NOISE, readers, interval: 30_000 };
+        let [a, b, c] = rounds_of(rounds, |k| engine(&work, [64, 512, 4096][k], ARITY, 64, 0, events).map(|t| t.each()));
         println!("| {shape}, {readers} reading | {} | {} | {} | {} |", a.cell(), b.cell(), c.cell(), c.ratio(&a));
     }
     // from 16 to 256 stations, the same readers
-    let lines = [(16, 4), (256, 4), (16, 1), (256, 1)].map(|(n, fan)| Work { n, fan, noise: 107_374_182, readers: 15, interval: 15_000 });
-    let row: [Rounds; 4] = rounds_of(rounds, |k| engine(&lines[k], 4096, 64, 0, events).map(|t| t.each()));
+    let lines = [(16, 4), (256, 4), (16, 1), (256, 1)].map(|(n, fan)| Work { n, fan, noise: NOISE, readers: 15, interval: 15_000 });
+    let row: [Rounds; 4] = rounds_of(rounds, |k| engine(&lines[k], 4096, ARITY, 64, 0, events).map(|t| t.each()));
     println!("\n| 15 reading, capacity 4096 | 16 stations | 256 stations | 256 / 16 |\n|---|---|---|---|");
     println!("| tree of 4 | {} | {} | {} |", row[0].cell(), row[1].cell(), row[1].ratio(&row[0]));
     println!("| chain | {} | {} | {} |", row[2].cell(), row[3].cell(), row[3].ratio(&row[2]));
     println!("\n| 256 stations, capacity 4096, noise 5 % | w 1 | 4 | 16 | 64 | 256 | 1024 | 4096 | heap | ns-3 | SimPy | best / heap | best rounds | best / ns-3 |");
     println!("|---|---|---|---|---|---|---|---|---|---|---|---|---|---|");
-    for (shape, fan, interval) in [("tree of 4", 4, MINUTE), ("chain", 1, 7_500)] {
-        let work = Work { n: 256, fan, noise: 107_374_182, readers: 255, interval };
+    for (shape, work) in LONG {
         let row: [Rounds; 10] = rounds_of(rounds, |k| match k {
             7 => Some(heap(&work, &[], events).each()),
             8 => other("../target/benchmark-ns3", None, &work, events),
             9 => other("/usr/bin/python3", Some("../benchmarks/line_simpy.py"), &work, events / 20),
-            _ => engine(&work, 4096, 4u64.pow(k as u32), 0, events).map(|t| t.each()),
+            _ => engine(&work, 4096, ARITY, 4u64.pow(k as u32), 0, events).map(|t| t.each()),
         });
         let [.., heap, ns3, _] = &row;
         let best = row[..7].iter().filter(|r| r.median().is_some()).min_by(|x, y| x.median().partial_cmp(&y.median()).unwrap()).cloned().unwrap_or_default();
@@ -321,13 +370,12 @@ fn main() {
         println!("| {shape} | {} | {} | {} | {} |", cells.join(" | "), best.ratio(heap), best.least_ratio(heap), best.ratio(ns3));
     }
     println!("\n| late posts, 256 stations, capacity 4096 | none | undo 1 % | undo 10 % | heap, none late | heap, those of 10 % in time | 10 % / heap |\n|---|---|---|---|---|---|---|");
-    for (shape, fan, interval) in [("tree of 4", 4, MINUTE), ("chain", 1, 7_500)] {
-        let work = Work { n: 256, fan, noise: 107_374_182, readers: 255, interval };
+    for (shape, work) in LONG {
         let mut late = vec![];
         let [a, b, c, d, e] = rounds_of(rounds, |k| match k {
             3 => Some(heap(&work, &[], events).each()),
             4 => Some(heap(&work, &late, events).each()),
-            _ => engine(&work, 4096, 64, [0, 1, 10][k], events).map(|took| {
+            _ => engine(&work, 4096, ARITY, 64, [0, 1, 10][k], events).map(|took| {
                 late = took.late.clone();
                 took.each()
             }),
@@ -336,7 +384,7 @@ fn main() {
     }
     println!("\n| calendar alone, extract and register | w 1 | 64 | 4096 | heap | 64 / heap |\n|---|---|---|---|---|---|");
     for n in [16, 64, 256] {
-        let [a, b, c, d] = rounds_of(rounds, |k| Some(if k < 3 { calendar(n, [1, 64, 4096][k], 1_000_000) } else { times(n, 1_000_000) }));
+        let [a, b, c, d] = rounds_of(rounds, |k| Some(if k < 3 { calendar(n, ARITY, [1, 64, 4096][k], 1_000_000) } else { times(n, 1_000_000) }));
         println!("| {n} stations | {} | {} | {} | {} | {} |", a.cell(), b.cell(), c.cell(), d.cell(), b.ratio(&d));
     }
 }

@@ -1,10 +1,14 @@
-//! Plans and the engine against simple ones written from the paper alone, call by call; then every call on damaged buffers.
+//! Plans, the engine and the calendar against simple ones written from the paper alone, call by call; then every call on damaged buffers.
 //!
 //!     make fuzz [CASES=2000] [SEED=1]
+//!     make calendars [LISTS=400] [SEED=1]
 //!
-//! A case of plans is a drawn list of stations, written, and the plan damaged, read. A case of the engine is a drawn line and a drawn list of calls. Answers, logs and records are compared, and at the end the joined logs and the records with the plain
-//! machine. A difference prints the case's seed. `fuzz stack=64` runs the deepest rollback in a stack of so many KiB.
-use jambfennel::{Engine, Entry, Plan, Refusal, State, Station};
+//! A case of plans is a drawn list of stations, written, and the plan damaged, read. A case of the engine is a drawn line, arity and width, openings with numbers in and
+//! out of range, and a drawn list of calls. Answers, logs and records are compared, and at the end the joined logs and the records with the plain machine. A
+//! difference prints the case's seed. `fuzz stack=64` runs the deepest rollback in a stack of so many KiB. `fuzz calendars` reads lines of calendar calls with their
+//! answers, as tools/calendar.py writes them, and makes the calls.
+use jambfennel::{Calendar, Engine, Entry, Plan, Refusal, State, Station, ARITIES};
+use std::io::BufRead;
 
 #[path = "../../reference/mod.rs"]
 mod reference;
@@ -42,19 +46,20 @@ fn compare(seed: u64) -> u64 {
     let line = line(&mut dice);
     let n = line.len() as u64;
     let capacity = dice.pick(&[2, 3, 16, 64, 300]);
+    let arity = dice.pick(&ARITIES);
     let width = dice.pick(&[1, 3, 64, 1000, 1_048_576]);
-    let size = Engine::bytes(line.len(), capacity as usize) + dice.below(3) as usize * 100;
+    let size = Engine::bytes(arity, line.len(), capacity as usize) + dice.below(3) as usize * 100;
     let mut all = vec![0xA5u8; size + 64];
     all.iter_mut().for_each(|b| *b = dice.below(256) as u8);
     let guards = (all[..32].to_vec(), all[size + 32..].to_vec());
     let buffer = &mut all[32..size + 32];
     let plan = reference::plan_bytes(&line);
-    let mut engine = Engine::open(&plan, width, capacity, buffer).unwrap_or_else(|e| panic!("case {seed}: {e}"));
-    let mut model = reference::Engine::open(&line, width, capacity);
+    let mut engine = Engine::open(&plan, arity, width, capacity, buffer).unwrap_or_else(|e| panic!("case {seed}: {e}"));
+    let mut model = reference::Engine::open(&line, arity, width, capacity);
     let (mut posts, mut gone, mut logs) = (vec![], vec![], vec![]);
     let start = dice.pick(&[0, 0, 0, reference::H - 400]);
     // in one block or the next; or past the ring's 16, so that every count of bitmap words read is met
-    let spread = if start == 0 && dice.one_in(2) { 20 * 256 * width } else { 100 };
+    let spread = if start == 0 && dice.one_in(2) { 20 * arity * arity * width } else { 100 };
     let mut calls = 0;
     for _ in 0..60 + dice.below(300) {
         calls += 1;
@@ -131,6 +136,38 @@ fn compare(seed: u64) -> u64 {
     calls
 }
 
+// Openings of the engine and the calendar with numbers in and out of range. A refused one leaves the buffer as it was.
+fn openings(seed: u64) -> u64 {
+    let mut dice = Dice(seed.wrapping_mul(0xA24B_AED4_963E_E407) | 1);
+    let line = line(&mut dice);
+    let mut plan = reference::plan_bytes(&line);
+    if dice.one_in(4) {
+        plan.truncate(dice.below(plan.len() as u64) as usize);
+    }
+    let arity = match dice.below(4) {
+        0 => dice.pick(&[0, 1, 4, 7, 9, 12, 24, 128, 65_552, (1 << 32) + 16, u64::MAX]),
+        _ => dice.pick(&ARITIES),
+    };
+    let width = dice.pick(&[0, 1, 64, 1_048_576, 1_048_577, u64::MAX]);
+    let capacity = dice.pick(&[0, 1, 2, 64, 4096, 4097, u64::MAX]);
+    let n = dice.pick(&[0, 1, line.len() as u64, 256, 257, u64::MAX]);
+    let filler = dice.below(256) as u8;
+    // one byte too few, or just enough where the numbers are in range
+    let enough = Engine::bytes(arity, line.len(), capacity.min(4096) as usize);
+    let mut buffer = vec![filler; enough - usize::from(dice.one_in(3))];
+    let said = wrong(Engine::open(&plan, arity, width, capacity, &mut buffer).map(|_| ()));
+    let expected = reference::open_engine(&plan, arity, width, capacity, buffer.len() as u64);
+    assert_eq!(said, expected, "case {seed}: an engine's opening, arity {arity}, width {width}, capacity {capacity}, {} bytes", buffer.len());
+    assert!(said.is_ok() || buffer.iter().all(|byte| *byte == filler), "case {seed}: a refused opening changed the buffer");
+    let enough = Calendar::bytes(arity, n.min(256) as usize);
+    let mut buffer = vec![filler; enough.saturating_sub(usize::from(dice.one_in(3)))];
+    let said = number(Calendar::open(n, arity, width, &mut buffer).map(|_| ()));
+    let expected = reference::open_calendar(n, arity, width, buffer.len() as u64);
+    assert_eq!(said, expected, "case {seed}: a calendar's opening, {n} stations, arity {arity}, width {width}, {} bytes", buffer.len());
+    assert!(said.is_ok() || buffer.iter().all(|byte| *byte == filler), "case {seed}: a refused opening changed the buffer");
+    2
+}
+
 // A reading, a frame of station 0 with some repeats made, or a level.
 fn posted(dice: &mut Dice) -> (u64, u64) {
     match 1 + dice.below(3) {
@@ -144,11 +181,15 @@ fn damage(seed: u64) -> u64 {
     let mut dice = Dice(seed.wrapping_mul(0xD134_2543_DE82_EF95) | 1);
     let line = line(&mut dice);
     let capacity = dice.pick(&[2, 16, 64]);
-    let size = Engine::bytes(line.len(), capacity);
+    let arity = dice.pick(&ARITIES);
+    let size = Engine::bytes(arity, line.len(), capacity);
+    // the calendar lies after the links, and its eighth word names the shape
+    let calendar = 32 + 72 + 144 * line.len() + 72 * capacity;
+    let shape = calendar + 56;
     let mut all = vec![0u8; size + 64];
     let plan = reference::plan_bytes(&line);
     {
-        let mut engine = Engine::open(&plan, 64, capacity as u64, &mut all[32..size + 32]).unwrap();
+        let mut engine = Engine::open(&plan, arity, 64, capacity as u64, &mut all[32..size + 32]).unwrap();
         for _ in 0..40 {
             let (kind, value) = posted(&mut dice);
             let _ = engine.post_numbers(dice.below(line.len() as u64), dice.below(200), kind, value);
@@ -156,7 +197,7 @@ fn damage(seed: u64) -> u64 {
             let _ = engine.run_station(dice.below(line.len() as u64));
         }
     }
-    match dice.below(4) {
+    match dice.below(5) {
         0 => all[32..size + 32].iter_mut().for_each(|b| *b = dice.below(256) as u8),
         1 => {
             // garbage after a sound header
@@ -165,8 +206,12 @@ fn damage(seed: u64) -> u64 {
         }
         2 => {
             // small numbers in the links and slots, so that they lead somewhere
-            let (from, to) = (32 + 64, 32 + 72 + 144 * line.len() + 72 * capacity);
-            all[from..to].iter_mut().for_each(|b| *b = if dice.one_in(2) { 0 } else { dice.below(8) as u8 });
+            all[32 + 64..calendar].iter_mut().for_each(|b| *b = if dice.one_in(2) { 0 } else { dice.below(8) as u8 });
+        }
+        3 => {
+            // another shape, or none
+            let row = dice.pick(&[0, 1, 2, 3, 4, 7, 8, 64, 255, 256, 1 << 32, 1 << 63, u64::MAX - 1, u64::MAX]);
+            all[shape..shape + 8].copy_from_slice(&row.to_le_bytes());
         }
         _ => {
             for _ in 0..1 + dice.below(20) {
@@ -213,9 +258,8 @@ fn cascade() -> u64 {
     let line: Vec<Config> = (0..256u32)
         .map(|s| Config { parent: s.saturating_sub(1) as u16, calm: 1000, spring: 1000, threshold: 0, hop: 1, noise: 0, seed: 1 + s })
         .collect();
-    let size = Engine::bytes(256, 4096);
-    let mut buffer = vec![0; size];
-    let mut engine = Engine::open(&reference::plan_bytes(&line), 64, 4096, &mut buffer).unwrap();
+    let mut buffer = vec![0; Engine::bytes(16, 256, 4096)];
+    let mut engine = Engine::open(&reference::plan_bytes(&line), 16, 64, 4096, &mut buffer).unwrap();
     engine.post_numbers(255, 100, 2, 255).unwrap();
     while engine.run_lowest().is_ok() {}
     let undone = engine.post_numbers(255, 50, 3, 7).unwrap().undone;
@@ -323,6 +367,50 @@ fn plans(seed: u64) -> u64 {
     6 + expected.len() as u64
 }
 
+// Lines of calls on a calendar with their answers, made on the library's and on the simple one. Each opening has a buffer of its own, as long as the line says, between
+// guard bytes.
+fn calendars(lines: impl Iterator<Item = String>) -> [u64; 2] {
+    let mut all = vec![0xA5u8; 64];
+    let mut model = reference::Calendar::open(0, 16, 1);
+    let mut counted = [0; 2];
+    for line in lines {
+        // the bytes on both sides of a part
+        let Some((call, expected)) = line.split_once(": ") else { continue };
+        let mut words = call.split(' ');
+        let name = words.next().unwrap();
+        let numbers: Vec<u64> = words.map(|word| word.parse().expect("a number")).collect();
+        let told = |answer: Result<(), u64>| answer.map_or_else(|number| format!("no {number}"), |_| "ok".into());
+        let found = |answer: reference::Lowest| answer.map_or_else(|number| format!("no {number}"), |(time, station, words)| format!("{station} {time} {words}"));
+        let end = all.len() - 32;
+        let mut calendar = Calendar::resume(&mut all[32..end]);
+        let named = |lowest: Result<jambfennel::calendar::Lowest, Refusal>| number(lowest).map(|lowest| (lowest.time, lowest.station, lowest.words));
+        let (said, simple) = match (name, &numbers[..]) {
+            ("open", &[n, arity, width, bytes]) => {
+                let mut next = vec![0xA5; bytes as usize + 64];
+                let said = number(Calendar::open(n, arity, width, &mut next[32..bytes as usize + 32]).map(|_| ()));
+                let simple = reference::open_calendar(n, arity, width, bytes);
+                if simple.is_ok() {
+                    (model, all) = (reference::Calendar::open(n, arity, width), next);
+                } else {
+                    assert!(next.iter().all(|byte| *byte == 0xA5), "{line}: a refused opening changed the buffer");
+                }
+                counted[0] += 1;
+                (told(said), told(simple))
+            }
+            ("register", &[station, time]) => (told(number(calendar.register(station, time))), told(model.register(station, time))),
+            ("unregister", &[station]) => (told(number(calendar.unregister(station))), told(model.unregister(station))),
+            ("lowest", []) => (found(named(calendar.lowest())), found(model.lowest())),
+            ("extract", []) => (found(named(calendar.extract())), found(model.extract())),
+            ("advance", &[floor]) => (told(number(calendar.advance(floor))), told(model.advance(floor))),
+            _ => panic!("no such call: {line}"),
+        };
+        assert!(said == expected && simple == expected, "{line}: the library says {said}, the simple calendar {simple}");
+        assert!(all[..32].iter().chain(&all[all.len() - 32..]).all(|byte| *byte == 0xA5), "{line}: a byte outside the buffer");
+        counted[1] += 1;
+    }
+    counted
+}
+
 fn in_stack<T: Send + 'static>(kib: usize, f: impl FnOnce() -> T + Send + 'static) -> T {
     std::thread::Builder::new().stack_size(1024 * kib).spawn(f).unwrap().join().expect("the thread ends")
 }
@@ -332,11 +420,18 @@ fn main() {
         println!("a rollback of {} events in a stack of {kib} KiB", in_stack(kib, cascade));
         return;
     }
+    if std::env::args().nth(1).as_deref() == Some("calendars") {
+        let [openings, calls] = calendars(std::io::stdin().lock().lines().map(|line| line.expect("text")));
+        println!("{openings} openings of calendars, {calls} calls: answers as those of tools/calendar.py and of the simple calendar");
+        return;
+    }
     let arguments: Vec<u64> = std::env::args().skip(1).map(|a| a.parse().expect("a number")).collect();
     let cases = arguments.first().copied().unwrap_or(2_000);
     let seed = arguments.get(1).copied().unwrap_or(1);
     let calls: u64 = (seed..seed + cases).map(plans).sum();
     println!("{cases} lists of stations and {cases} plans, {calls} calls: bytes, records, names and refusals as in the simple reader and writer");
+    let calls: u64 = (seed..seed + cases).map(openings).sum();
+    println!("{calls} openings: answers as the paper's list of numbers has them");
     let calls: u64 = (seed..seed + cases).map(compare).sum();
     println!("{cases} lists, {calls} calls: answers, logs and records as in the simple engine and the plain machine");
     let calls: u64 = (seed..seed + cases).map(damage).sum();
