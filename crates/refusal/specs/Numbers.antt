@@ -1,8 +1,9 @@
--- The number that each refusal says (document 01, "What each number says, in checking order"; 26: document 02, change 9).
+-- The number that each refusal says (document 01, "What each number says, in checking order"; document 02, 19 and 20: change 1,
+-- 26: change 9).
 use Prim.Native.Nat.{ℕ}
 use mathlib.Core.List.{List, [], _∷_}
 use Rattle.refusal.specs.declared.Refusal.{Refusal}
-use Rattle.refusal.specs.declared.Refusal.the-variants.{Shape, Pair, Trailing, Field, Name, Width, Space, Command, Station, Matter, Late, Early, Post, Idle, Unrun, Count, Full, Output, Arity}
+use Rattle.refusal.specs.declared.Refusal.the-variants.{Shape, Pair, Trailing, Field, Name, Width, Space, Command, Station, Matter, Late, Early, Post, Idle, Unrun, Count, Full, Output, Part, Charge, Arity}
 
 abbrev pub numberOf : Refusal → ℕ
 numberOf Shape = 1
@@ -23,6 +24,8 @@ numberOf Unrun = 15
 numberOf Count = 16
 numberOf Full = 17
 numberOf Output = 18
+numberOf Part = 19
+numberOf Charge = 20
 numberOf Arity = 26
 
 -- "A refusal answers its number, the station for 2, 4 and 5"
@@ -45,4 +48,6 @@ stationsOf Unrun = []
 stationsOf Count = []
 stationsOf Full = []
 stationsOf Output = []
+stationsOf Part = []
+stationsOf Charge = []
 stationsOf Arity = []

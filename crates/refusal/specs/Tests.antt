@@ -1,5 +1,5 @@
--- What each number says, one test a number, for calendar and engine alike (document 01, "What each number says, in checking order"). The tests of
--- 1 to 5 stand with the plan, 8 with the command line, 10 with the matter, and 13 to 15 with the held events.
+-- What each number says, one test a number, for calendar, engine and account alike (document 01, "What each number says, in checking order"). The tests of
+-- 1 to 5 stand with the plan, 8 with the command line, 10 with the matter, 13 to 15 with the held events, and 19 with the parts of a log.
 use Prim.Native.Nat.{ℕ, _+_, _*_}
 use mathlib.Core.Bool.{Bool, true, false, not, _||_}
 use mathlib.Core.List.{List, [], _∷_}
@@ -37,6 +37,13 @@ calendarSpaceOut a n bytes = ltb n 1 || (ltb 256 n || ltb bytes (calendarBytes a
 abbrev pub engineSpaceOut : ℕ → ℕ → ℕ → ℕ → Bool
 engineSpaceOut a n capacity bytes = ltb capacity 2 || (ltb 4096 capacity || ltb bytes (engineBytes a n capacity))
 
+-- 7 of every call of the account: "for N out of range or a lent buffer under 8 + 8·N bytes (A, B and the charges)" (document 02, change 1)
+abbrev pub accountBytes : ℕ → ℕ
+accountBytes n = 8 + 8 * n
+
+abbrev pub accountSpaceOut : ℕ → ℕ → Bool
+accountSpaceOut n bytes = ltb n 1 || (ltb 256 n || ltb bytes (accountBytes n))
+
 -- 9: the station is N or more
 abbrev pub stationOut : ℕ → ℕ → Bool
 stationOut n s = leb n s
@@ -59,6 +66,10 @@ passes n = ltb largest n
 -- 17: fewer places are free than events are added
 abbrev pub tooFew : ℕ → ℕ → Bool
 tooFew free added = ltb free added
+
+-- 20: "a station's charge would pass 64 bits" (document 02, change 1)
+abbrev pub chargePasses : ℕ → Bool
+chargePasses v = ltb 18446744073709551615 v
 
 -- ---- the checking order
 

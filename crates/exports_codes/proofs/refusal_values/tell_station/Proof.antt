@@ -9,7 +9,7 @@ use denote.Ref.{now}
 use denote.Enum.Declared.{tagOf}
 use types.Run.{OneOf, miss}
 use Rattle.refusal.specs.declared.Refusal.{Refusal}
-use Rattle.refusal.specs.declared.Refusal.the-variants.{Shape, Pair, Trailing, Field, Name, Width, Space, Command, Station, Matter, Late, Early, Post, Idle, Unrun, Count, Full, Output, Arity}
+use Rattle.refusal.specs.declared.Refusal.the-variants.{Shape, Pair, Trailing, Field, Name, Width, Space, Command, Station, Matter, Late, Early, Post, Idle, Unrun, Count, Full, Output, Part, Charge, Arity}
 use Rattle.refusal.specs.Numbers.{stationsOf}
 use Rattle.refusal.proofs.Refusal as E
 use Rattle.exports_codes.specs.RefusalValues.{firstOr}
@@ -19,7 +19,7 @@ use Rattle.exports_codes.proofs.refusal_values.tell_station.Tie as tie
 
 -- the tags of the cases without a station
 abbrev others : List ℕ
-others = 0 ∷ 2 ∷ 5 ∷ 6 ∷ 7 ∷ 8 ∷ 9 ∷ 10 ∷ 11 ∷ 12 ∷ 13 ∷ 14 ∷ 15 ∷ 16 ∷ 17 ∷ 18 ∷ []
+others = 0 ∷ 2 ∷ 5 ∷ 6 ∷ 7 ∷ 8 ∷ 9 ∷ 10 ∷ 11 ∷ 12 ∷ 13 ∷ 14 ∷ 15 ∷ 16 ∷ 17 ∷ 18 ∷ 19 ∷ 20 ∷ []
 
 nowhere : (e : Refusal) → OneOf others (tagOf E.the-type e) → stationsOf e ≡ []
 nowhere Shape k = refl
@@ -40,6 +40,8 @@ nowhere Unrun k = refl
 nowhere Count k = refl
 nowhere Full k = refl
 nowhere Output k = refl
+nowhere Part k = refl
+nowhere Charge k = refl
 nowhere Arity k = refl
 
 left : (xs : List ℕ) (s v : ℕ) (e f : Refusal) → s ≡ v → e ≡ f → stationsOf f ≡ v ∷ [] → set xs 0 s ≡ firstOr (stationsOf e) xs
