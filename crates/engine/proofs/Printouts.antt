@@ -12,7 +12,7 @@ use Rattle.engine.specs.Session.{Whole}
 use Rattle.engine.specs.Printouts.{Printout, Printouts}
 use Rattle.engine.proofs.Session.{whole}
 
-listed : {plan : List ℕ} {setting : Setting} {ms : List Made} (o : Printout plan setting ms) → Whole plan setting ms (o .left)
+pub listed : {plan : List ℕ} {setting : Setting} {ms : List Made} (o : Printout plan setting ms) → Whole plan setting ms (o .left)
 listed {plan} {setting} {ms} o =
     whole plan (setting .arity) (setting .width) (setting .capacity) (o .before) Done (o .opened) (o .opening) .whole refl (o .left) ms (o .calls)
 

@@ -50,12 +50,12 @@ matter-back (Frame origin repeats) f =
     rw (v .0, v .1, r)
 matter-back (Level mm) f = refl
 
-value-fits : (m : Matter) → MatterFits m → valueOf m < 256 ^ 4
+pub value-fits : (m : Matter) → MatterFits m → valueOf m < 256 ^ 4
 value-fits Read f = omega arith
 value-fits (Frame origin repeats) f = omega arith
 value-fits (Level mm) f = f
 
-kind-fits : (m : Matter) → kindOf m < 256 ^ 4
+pub kind-fits : (m : Matter) → kindOf m < 256 ^ 4
 kind-fits Read = omega arith
 kind-fits (Frame origin repeats) = omega arith
 kind-fits (Level mm) = omega arith

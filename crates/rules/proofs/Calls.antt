@@ -5,7 +5,7 @@ pub mod Invariant
 pub mod Step
 pub mod Room
 pub mod Demand3
-pub mod LogSuits
+pub mod LogEvents
 pub mod Tests
 pub mod Compute
 pub mod Lowest

@@ -27,7 +27,7 @@ use Rattle.rules.proofs.Replay.Mark.{First, first-target}
 use Rattle.rules.proofs.Replay.RunsLeft.{runs-mark}
 use Rattle.rules.proofs.Undo.Agree.{does-agree}
 use Rattle.rules.proofs.Undo.Exist.{IsHeld, is-unrun, is-run, can-remove, can-add}
-use Rattle.rules.proofs.Undo.Count.{undos, Suits, undone-undos, undone-run, does-falls}
+use Rattle.rules.proofs.Undo.Count.{undos, Feasible, undone-undos, undone-run, does-falls}
 use Rattle.rules.proofs.Calls.Invariant.{Inv, opened-inv, least-first, held-neat, post-new}
 use Rattle.rules.proofs.Calls.Step.{call-next, post-passed, run-fits, running-neat, can-run, run-queue}
 use Rattle.rules.proofs.Calls.Lowest.{lowest-is}
@@ -67,7 +67,7 @@ module _ (p : Plan) (S : InRange p) (e : Engine) (posts : List Event) (gone log 
   pub first-of : (s : ℕ) (x : Event) → leastUnrun s (e .queue .held) ≡ some x → First (x .target) x (e .queue .held)
   first-of s x k = let g = least-first s (e .queue .held) x k in subst (λ t. First t x (e .queue .held)) (sym (first-target g)) g
 
-  pub post-fits : (s t kind value : ℕ) (m : Matter) → judged (checks p e (Post s t kind value)) ≡ accepted → Suits p (Add (postOf (e .next) s t m)) (e .queue)
+  pub post-fits : (s t kind value : ℕ) (m : Matter) → judged (checks p e (Post s t kind value)) ≡ accepted → Feasible p (Add (postOf (e .next) s t m)) (e .queue)
   unfolding postOf
   post-fits s t kind value m j = (post-passed p e s t kind value j .0, post-new p S e posts gone log i (record { time = t; target = s; source = posted; number = e .next; matter = m }) refl refl)
 

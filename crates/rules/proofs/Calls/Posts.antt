@@ -3,11 +3,13 @@ use mathlib.Core.Path.{_≡_, refl, sym, ap, _∙_}
 use mathlib.Core.Logic.{_≢_}
 use mathlib.Core.Bool.{Bool, true, false, cond, _||_}
 use mathlib.Core.List.{List, [], _∷_, _++_, List·Memᴰ, List·Memᴰ·head, List·Memᴰ·tail}
-use Prim.Native.Nat.{ℕ, _<_}
+use Prim.Native.Nat.{ℕ, _≤_, _<_}
 use native.Mathlib.Omega.{arith}
 use lib.Dec.{eqb}
+use Rattle.refusal.specs.Tests.{horizon}
 use Rattle.line.specs.declared.Event.{Event}
 use Rattle.line.specs.Event.{posted}
+use Rattle.line.specs.Matter.{Suits}
 use Rattle.line.specs.Station.{Plan}
 use Rattle.line.specs.Order.{Differ, All}
 use Rattle.line.proofs.Order.{differ-number, Which, this, other, which}
@@ -18,9 +20,11 @@ use Rattle.rules.proofs.Machine.Insert.{insert-comm}
 use Rattle.line.proofs.Members.{all-in}
 
 pub record IsPost (p : Plan) (next : ℕ) (x : Event) : Type 0 where
+  pub timely : x .time ≤ horizon
   pub inside : x .target < p .count
   pub outer : x .source ≡ posted
   pub numbered : x .number < next
+  pub suits : Suits (p .count) (x .matter)
 
 -- no two have one number
 abbrev pub Numbered : List Event → Type 0

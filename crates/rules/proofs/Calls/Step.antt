@@ -8,17 +8,19 @@ use native.Mathlib.Nat.{le-refl}
 use native.Mathlib.Omega.{arith}
 use lib.Dec.{ltb, leb, nleb→lt, nltb→le}
 use lib.ListN.{length, drop}
-use Rattle.refusal.specs.Tests.{Verdict, accepted, orNext, judged}
+use Rattle.refusal.specs.Tests.{horizon, Verdict, accepted, orNext, judged}
 use Rattle.refusal.proofs.CheckingOrder.{not-holding}
 use Rattle.line.specs.declared.Event.{Event}
 use Rattle.line.specs.declared.Matter.{Matter}
 use Rattle.line.specs.declared.State.{State}
 use Rattle.line.specs.Event.{posted}
+use Rattle.line.specs.Matter.{Suits}
 use Rattle.line.specs.Station.{Plan, InRange, initial, runEvent}
 use Rattle.line.specs.Order.{Differ, All}
 use Rattle.line.proofs.Order.{differ-number}
 use Rattle.line.proofs.All.{all-map, all-snoc}
 use Rattle.line.proofs.Sends.{Good, event-good}
+use Rattle.line.proofs.Suits.{means-suits}
 use Rattle.rules.specs.Held.{Queue, some, leastUnrun, heldPost, unrunBefore, logged, kept}
 use Rattle.rules.specs.Undo.{Does, Remove, Add, AddEach}
 use Rattle.rules.specs.Engine.{Engine, Call, Post, Commit, Answer}
@@ -40,7 +42,7 @@ use Rattle.rules.proofs.Replay.Neat.{mark-neat, mark-each}
 use Rattle.rules.proofs.Undo.Agree.{does-agree}
 use Rattle.rules.proofs.Undo.Exist.{can-add-each}
 use Rattle.rules.proofs.Undo.RunFirst.{on, does-on}
-use Rattle.rules.proofs.Undo.Count.{Suits}
+use Rattle.rules.proofs.Undo.Count.{Feasible}
 use Rattle.entry.proofs.Entries.{entries-append, entries-first}
 use Rattle.rules.proofs.Calls.Posts.{IsPost, numbered-snoc, insertAll-snoc, without-all, without-append, without-snoc, without-insert, without-numbered}
 use Rattle.rules.proofs.Calls.Invariant.{Inv, held-post, least-first, fed-posts, fed-inside, start-inside, held-known, held-late, held-neat, post-new, sends-new}
@@ -53,14 +55,15 @@ lt-of m n e = nleb→lt n m (rw e tt)
 pub le-of : (m n : ℕ) → ltb n m ≡ false → m ≤ n
 le-of m n e = nltb→le n m (rw e tt)
 
-pub post-passed : (p : Plan) (e : Engine) (s t kind value : ℕ) → judged (checks p e (Post s t kind value)) ≡ accepted → (s < p .count) × (e .now ≤ t)
+pub post-passed : (p : Plan) (e : Engine) (s t kind value : ℕ) → judged (checks p e (Post s t kind value)) ≡ accepted
+    → (s < p .count) × (t ≤ horizon) × (e .now ≤ t)
 unfolding checks judged
 post-passed p e s t kind value j =
     let a = not-holding _ 9 _ j in
     let b = not-holding _ 10 _ (a .1) in
     let c = not-holding _ 11 _ (b .1) in
     let d = not-holding _ 12 _ (c .1) in
-    (lt-of s (p .count) (a .0), le-of (e .now) t (d .0))
+    (lt-of s (p .count) (a .0), le-of t horizon (c .0), le-of (e .now) t (d .0))
 
 pub commit-passed : (p : Plan) (e : Engine) (c : ℕ) (output : List ℕ) → judged (checks p e (Commit c output)) ≡ accepted
     → (e .now ≤ c) × (unrunBefore c (e .queue .held) ≡ false)
@@ -87,7 +90,7 @@ module _ (p : Plan) (S : InRange p) where
     run-good = event-good p S (e .queue .states (x .target)) x run-inside
 
     -- the sends of a run can be added where its event is run
-    pub run-fits : Suits p (AddEach (sendsOf p (e .queue .states (x .target)) x)) (running p (e .queue) x)
+    pub run-fits : Feasible p (AddEach (sendsOf p (e .queue .states (x .target)) x)) (running p (e .queue) x)
     unfolding running
     run-fits = (
       all-map (λ y w. w .inside) ys (run-good .each),
@@ -142,10 +145,11 @@ module _ (p : Plan) (S : InRange p) where
     same-inv : Inv p e (posts ++ []) (gone ++ []) (log ++ [])
     same-inv = rw (append-nil posts, append-nil gone, append-nil log) i
 
-    post-inv : (s t : ℕ) (m : Matter) (q : Queue) → s < p .count → e .now ≤ t → Does p (Add (postOf (e .next) s t m)) (e .queue) q
+    post-inv : (s t : ℕ) (m : Matter) (q : Queue) → s < p .count → t ≤ horizon → e .now ≤ t → Suits (p .count) m
+        → Does p (Add (postOf (e .next) s t m)) (e .queue) q
         → Inv p (afterPost e q) (posts ++ (postOf (e .next) s t m ∷ [])) (gone ++ []) (log ++ [])
     unfolding postOf sortedStart
-    post-inv s t m q h l d = rw (append-nil gone, append-nil log) (record {
+    post-inv s t m q h timely l suits d = rw (append-nil gone, append-nil log) (record {
       machine = alsoWaiting x (i .machine);
       steps =
           subst (λ ws. SortedRuns p (e .now) (record { waiting = ws; states = initial p; log = [] }) (alsoWaiting x (i .machine)))
@@ -156,8 +160,9 @@ module _ (p : Plan) (S : InRange p) where
           subst (Replayed p (insertSorted x (i .machine .waiting)) (i .machine .states)) (sym agrees)
           (add-after p S (i .machine .waiting) (i .machine .states) x (e .queue) h fresh (i .ok) .ok);
       are-posts =
-          all-snoc (IsPost p (suc (e .next))) posts x (all-map (λ y k. record { inside = k .inside; outer = k .outer; numbered = omega (arith, k .numbered) }) posts (i .are-posts))
-          (record { inside = h; outer = refl; numbered = le-refl _ });
+          all-snoc (IsPost p (suc (e .next))) posts x
+          (all-map (λ y k. record { timely = k .timely; inside = k .inside; outer = k .outer; numbered = omega (arith, k .numbered); suits = k .suits }) posts (i .are-posts))
+          (record { timely = timely; inside = h; outer = refl; numbered = le-refl _; suits = suits });
       numbered = numbered-snoc posts x (all-map (λ y k. omega (arith, k .numbered)) posts (i .are-posts)) (i .numbered);
       passed = all-map (λ n k. omega arith) gone (i .passed);
     })
@@ -272,7 +277,7 @@ module _ (p : Plan) (S : InRange p) where
   call-next posts gone log (refuse {e = e} j) i = record { inv = same-inv e posts gone log i; number = omega arith; time = refl }
   call-next posts gone log (post {e = e} {s = s} {t = t} {kind = kind} {value = value} {m = m} {q = q} j k d) i =
       let h = post-passed p e s t kind value j in
-      record { inv = rw k (post-inv e posts gone log i s t m q (h .0) (h .1) d); number = rw k (omega arith); time = refl }
+      record { inv = rw k (post-inv e posts gone log i s t m q (h .0) (h .1) (h .2) (means-suits (p .count) kind value m k) d); number = rw k (omega arith); time = refl }
   call-next posts gone log (retract {e = e} {n = n} {x = x} {q = q} j k d) i = record { inv = retract-inv e posts gone log i n x q k d; number = omega arith; time = refl }
   call-next posts gone log (run {e = e} {s = s} {x = x} {q = q} j k d) i = record { inv = run-inv e posts gone log i s x q k d; number = omega arith; time = refl }
   call-next posts gone log (lowest l d) i = let n = call-next posts gone log d i in record { inv = n .inv; number = n .number; time = n .time }

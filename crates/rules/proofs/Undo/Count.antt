@@ -53,15 +53,15 @@ delete-same-runs x (ran y b ∷ h) c = rw (differ-same (differs (which (y .targe
     differs (other e _) = differ-target y x e
 
 -- what an action needs besides a neat queue
-abbrev pub Suits : Plan → Action → Queue → Type 0
-Suits p (Undo x) q = NoneLater x (q .held)
-Suits p (UndoLater x) q = Unit {0}
-Suits p (Remove x) q = Unit {0}
-Suits p (RemoveEach xs) q = Unit {0}
-Suits p (Add x) q = (x .target < p .count) × New x (q .held)
-Suits p (AddEach xs) q = All (λ x. x .target < p .count) xs × All (λ x. New x (q .held)) xs × Distinct xs
+abbrev pub Feasible : Plan → Action → Queue → Type 0
+Feasible p (Undo x) q = NoneLater x (q .held)
+Feasible p (UndoLater x) q = Unit {0}
+Feasible p (Remove x) q = Unit {0}
+Feasible p (RemoveEach xs) q = Unit {0}
+Feasible p (Add x) q = (x .target < p .count) × New x (q .held)
+Feasible p (AddEach xs) q = All (λ x. x .target < p .count) xs × All (λ x. New x (q .held)) xs × Distinct xs
 
-pub does-falls : {p : Plan} {a : Action} {q r : Queue} (d : Does p a q r) → Neat p (q .held) → Suits p a q → runs (q .held) ≡ undos d + runs (r .held)
+pub does-falls : {p : Plan} {a : Action} {q r : Queue} (d : Does p a q r) → Neat p (q .held) → Feasible p a q → runs (q .held) ≡ undos d + runs (r .held)
 unfolding undos
 does-falls {p} (undo {q = q} {x = x} {b = b} m d) k n =
     omega (arith, found-runs (is-latest (x .target) x x b (q .held) (k .strict) m refl (irr x) n), does-falls d (unmark-neat p x b (q .held) m n k) tt)
@@ -102,7 +102,7 @@ ran-distinct (unrun x ∷ h) o = ran-distinct h (o .1)
 ran-distinct (ran x b ∷ h) o = (all-map (λ y l. fst l) (ranOnes h) (ran-all (Lt x) h (o .0)), ran-distinct h (o .1))
 
 -- post and retract
-pub undone-undos : {p : Plan} {a : Action} {q r : Queue} (d : Does p a q r) → Neat p (q .held) → Suits p a q → undone (q .held) (r .held) ≡ undos d
+pub undone-undos : {p : Plan} {a : Action} {q r : Queue} (d : Does p a q r) → Neat p (q .held) → Feasible p a q → undone (q .held) (r .held) ≡ undos d
 undone-undos {q = q} {r = r} d k f = omega (arith, undone-rest (q .held) (r .held) (does-sub d) (ran-distinct (q .held) (k .strict)), does-falls d k f)
 
 -- run: its event was not run before
