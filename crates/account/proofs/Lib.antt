@@ -1,0 +1,4 @@
+pub mod Adding
+pub mod Storing
+pub mod Answers
+pub mod Session

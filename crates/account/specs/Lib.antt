@@ -1,0 +1,5 @@
+pub mod Account
+pub mod Answers
+pub mod Promises
+pub mod Session
+pub mod Steps
