@@ -1,0 +1,1 @@
+// No code: what an account charges for the logs that an engine committed, as theorems.
