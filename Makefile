@@ -1,6 +1,6 @@
 # The gate is `sh .ci/run`. This file has what is run by hand.
 
-.PHONY: library example test outputs fuzz calendars benchmark benchmark-widths benchmark-shapes benchmark-calendar
+.PHONY: library example test largest-charge outputs fuzz calendars accounts benchmark benchmark-widths benchmark-shapes benchmark-account benchmark-calendar
 
 CASES ?= 2000
 LISTS ?= 400
@@ -24,11 +24,16 @@ example: library
 test: library
 	cd rust && $(CARGO) test
 
+# 4294967297 readings at 4294967295 units: the charge is 2^64 - 1, and one more is refused.
+largest-charge: library
+	cd rust && $(CARGO) test --release --test account -- --ignored
+
 # What tools/ write, against the files of the crates that they wrote.
 outputs:
 	python3 tools/worked.py | cmp - crates/rules_worked/proofs/Lists.antt
 	python3 tools/generator.py | cmp - crates/generator_test/stdout
 	python3 tools/calendar.py | cmp - crates/calendar_test/stdout
+	python3 tools/account.py | cmp - crates/account_test/stdout
 	python3 tools/commands.py tools/lines/river.txt 7 1500 | cmp - crates/bench_long/stdin
 	for bench in two:bench two:bench_refusals repeats:bench_repeats river:bench_long; do \
 	    line=tools/lines/$${bench%:*}.txt crate=crates/$${bench#*:}; \
@@ -36,7 +41,7 @@ outputs:
 	    python3 tools/bench.py $$line < $$crate/stdin | cmp - $$crate/stdout || exit 1; \
 	done
 
-# The engine against a simple one, call by call, and on damaged buffers.
+# The engine and the account against simple ones, call by call, and the engine on damaged buffers.
 fuzz: library
 	cd rust && $(CARGO) run --release --bin fuzz -- $(CASES) $(SEED)
 
@@ -45,6 +50,12 @@ calendars: library
 	cd rust && $(CARGO) build --release --bin fuzz
 	python3 tools/calendar.py | rust/target/release/fuzz calendars
 	python3 tools/calendar.py $(LISTS) $(SEED) | rust/target/release/fuzz calendars
+
+# The account against the reading in Python: the calls of account_test, and drawn lists.
+accounts: library
+	cd rust && $(CARGO) build --release --bin fuzz
+	python3 tools/account.py | rust/target/release/fuzz accounts
+	python3 tools/account.py $(LISTS) $(SEED) | rust/target/release/fuzz accounts
 
 # The engine against a plain machine on std's BinaryHeap, in one run; ROUNDS=9 by default. With Debian's libns3-dev and
 # python3-simpy also against these.
@@ -59,6 +70,10 @@ benchmark-widths: library
 # What an arity is chosen by: the same at the four of them and seven leaf widths, on long lines; then on shorter lines, and the calendar alone.
 benchmark-shapes: library
 	cd rust && $(CARGO) run --release --bin benchmark -- shapes $(ROUNDS)
+
+# The account against a plain one that makes one pass, in one run.
+benchmark-account: library
+	cd rust && $(CARGO) run --release --bin benchmark -- accounts $(ROUNDS)
 
 # The calendar against std's BTreeSet, in one run; ROUNDS=20 by default.
 benchmark-calendar: library

@@ -1,5 +1,5 @@
-// The calendar, the engine and the plain machine, straight from documents 01 and 02 and as simple as can be: a sorted set of times, a sorted map of held events, a
-// heap of waiting ones.
+// The calendar, the engine, the plain machine and the account, straight from documents 01 and 02 and as simple as can be: a sorted set of times, a sorted map of held
+// events, a heap of waiting ones, a list of charges.
 #![allow(dead_code)]
 use std::cmp::Reverse;
 use std::collections::{BTreeMap, BTreeSet, BinaryHeap};
@@ -526,5 +526,89 @@ impl Engine {
         }
         let first = self.held.iter().find(|(k, h)| k.1 == station && h.run.is_some());
         Ok(first.map_or(self.states[station as usize], |(_, h)| h.run.as_ref().unwrap().0))
+    }
+}
+
+/// The account in a buffer of so many bytes. Its charges have room for any sum.
+#[derive(Clone, PartialEq, Eq, Debug, Default)]
+pub struct Account {
+    pub room: usize,
+    pub n: u64,
+    pub reading: u32,
+    pub frame: u32,
+    pub charges: Vec<u128>,
+}
+
+impl Account {
+    /// None yet, in so many bytes.
+    pub fn within(room: usize) -> Account {
+        Account { room, ..Default::default() }
+    }
+
+    /// What bytes stand for, with so many stations: 4 for what a reading costs, 4 for a frame, 8 for each charge.
+    pub fn of(n: u64, bytes: &[u8]) -> Account {
+        let number = |at: usize, len: usize| bytes.get(at..at + len).map(|some| some.iter().rev().fold(0, |number, byte| 256 * number + u128::from(*byte)));
+        Account {
+            room: bytes.len(),
+            n,
+            reading: number(0, 4).unwrap_or(0) as u32,
+            frame: number(4, 4).unwrap_or(0) as u32,
+            charges: (0..n.min(256) as usize).map_while(|s| number(8 + 8 * s, 8)).collect(),
+        }
+    }
+
+    /// The bytes that stand for it.
+    pub fn bytes(&self) -> Vec<u8> {
+        let mut bytes = [self.reading.to_le_bytes(), self.frame.to_le_bytes()].concat();
+        self.charges.iter().for_each(|charge| bytes.extend((*charge as u64).to_le_bytes()));
+        bytes
+    }
+
+    /// 7, which comes first in every call.
+    fn fits(&self, n: u64) -> Result<(), u64> {
+        if !(1..=256).contains(&n) || self.room < 8 + 8 * n as usize {
+            return Err(7);
+        }
+        Ok(())
+    }
+
+    pub fn open(&mut self, n: u64, reading: u32, frame: u32) -> Result<(), u64> {
+        self.fits(n)?;
+        *self = Account { room: self.room, n, reading, frame, charges: vec![0; n as usize] };
+        Ok(())
+    }
+
+    pub fn read(&mut self, n: u64, part: &[u8]) -> Result<(), u64> {
+        self.fits(n)?;
+        let entries = part.chunks_exact(24);
+        if !entries.remainder().is_empty() {
+            return Err(19);
+        }
+        let mut charges = self.charges.clone();
+        for entry in entries {
+            let number = |at: usize, len: usize| entry[at..at + len].iter().rev().fold(0, |number, byte| 256 * number + u64::from(*byte));
+            let (time, value, target, source, kind) = (number(0, 8), number(12, 4), number(16, 2), number(18, 2), number(20, 4));
+            if time > H || target >= n || (source >= n && source != POSTED) || !suits(n, (kind, value)) {
+                return Err(19);
+            }
+            charges[target as usize] += match kind {
+                1 => u128::from(self.reading),
+                2 => u128::from(self.frame),
+                _ => 0,
+            };
+        }
+        if charges.iter().any(|charge| *charge > u64::MAX.into()) {
+            return Err(20);
+        }
+        self.charges = charges;
+        Ok(())
+    }
+
+    pub fn charge(&self, n: u64, station: u64) -> Result<u64, u64> {
+        self.fits(n)?;
+        if station >= n {
+            return Err(9);
+        }
+        Ok(self.charges[station as usize] as u64)
     }
 }

@@ -21,6 +21,9 @@ extern "C" {
     fn calendar_lowest(b: *const u8, len: usize, at: *mut [u64; 3]) -> u64;
     fn calendar_extract(b: *mut u8, len: usize, at: *mut [u64; 3]) -> u64;
     fn calendar_advance(b: *mut u8, len: usize, floor: u64) -> u64;
+    fn account_open(n: u64, reading: u32, frame: u32, b: *mut u8, len: usize) -> u64;
+    fn account_read(b: *mut u8, len: usize, n: u64, part: *const u8, part_len: usize) -> u64;
+    fn account_charge(b: *const u8, len: usize, n: u64, station: u64, at: *mut [u64; 1]) -> u64;
 }
 
 fn answer<const N: usize>(call: impl FnOnce(*mut [u64; N]) -> u64) -> Result<[u64; N], Refusal> {
@@ -104,4 +107,16 @@ pub fn extract(b: &mut [u8]) -> Result<[u64; 3], Refusal> {
 
 pub fn advance(b: &mut [u8], floor: u64) -> Result<(), Refusal> {
     done(unsafe { calendar_advance(b.as_mut_ptr(), b.len(), floor) })
+}
+
+pub fn open_account(n: u64, reading: u32, frame: u32, b: &mut [u8]) -> Result<(), Refusal> {
+    done(unsafe { account_open(n, reading, frame, b.as_mut_ptr(), b.len()) })
+}
+
+pub fn read_part(b: &mut [u8], n: u64, part: &[u8]) -> Result<(), Refusal> {
+    done(unsafe { account_read(b.as_mut_ptr(), b.len(), n, part.as_ptr(), part.len()) })
+}
+
+pub fn charge(b: &[u8], n: u64, station: u64) -> Result<[u64; 1], Refusal> {
+    answer(|at| unsafe { account_charge(b.as_ptr(), b.len(), n, station, at) })
 }

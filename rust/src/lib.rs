@@ -1,4 +1,4 @@
-//! The line simulator: an engine on one lent buffer, its plan and its calendar.
+//! The line simulator: an engine on one lent buffer, its plan, its calendar, and an account of what its log costs.
 //!
 //! The calls are proved (see `docs/READING.md`); this crate adds slices and `Result`s. Every call takes any bytes and any numbers: nothing has to be tested first, a
 //! refusal changes nothing, and no call reads or writes outside of what it is lent.
@@ -26,9 +26,11 @@
 use std::fmt;
 
 mod calls;
+pub mod account;
 pub mod calendar;
 pub mod plan;
 
+pub use account::Account;
 pub use calendar::Calendar;
 pub use plan::{Config, Plan, Station};
 
@@ -66,7 +68,7 @@ impl fmt::Display for Refusal {
             4 => "a number of a record is out of range",
             5 => "a name has a byte out of range",
             6 => "the leaf width is out of range",
-            7 => "the capacity is out of range, or the buffer is too short",
+            7 => "the capacity or the number of stations is out of range, or the buffer is too short",
             8 => "no such command",
             9 => "no such station",
             10 => "the kind is none, or its value does not suit it",
@@ -78,6 +80,8 @@ impl fmt::Display for Refusal {
             16 => "a count would pass 32 bits",
             17 => "too few places are free",
             18 => "the output is too short",
+            19 => "the part of a log is no multiple of 24 bytes, or an entry is out of range",
+            20 => "a charge would pass 64 bits",
             26 => "the arity is not 8, 16, 32 or 64",
             _ => "unknown",
         };
@@ -195,6 +199,12 @@ pub struct Log<'o>(&'o [u8]);
 impl<'o> Log<'o> {
     /// Its bytes, 24 an event.
     pub fn bytes(&self) -> &'o [u8] {
+        self.0
+    }
+}
+
+impl AsRef<[u8]> for Log<'_> {
+    fn as_ref(&self) -> &[u8] {
         self.0
     }
 }

@@ -1,5 +1,5 @@
 //! The example's hour against the plain machine of `reference`, event by event, and the stations' states at its end.
-use jambfennel::{Entry, Matter, Plan, State};
+use jambfennel::{Account, Entry, Matter, Plan, State};
 
 #[path = "../examples/line.rs"]
 mod line;
@@ -18,7 +18,8 @@ fn numbers(matter: Matter) -> reference::Matter {
 fn an_hour_is_the_plain_machines() {
     let mut bytes = [0; Plan::bytes_for(3)];
     let plan = Plan::write(&line::stations(), &mut bytes).unwrap();
-    let (entries, states) = line::hour(&plan).unwrap();
+    let mut charges = [0; Account::bytes(3)];
+    let (entries, states) = line::hour(&plan, &mut Account::open(3, 1, 1, &mut charges).unwrap()).unwrap();
 
     let configs: Vec<_> = reference::read_plan(plan.bytes()).unwrap().into_iter().map(|(config, _)| config).collect();
     let mut machine = reference::Machine::new(&configs);

@@ -3,11 +3,12 @@
 //!     make benchmark [ROUNDS=9]
 //!     make benchmark-widths [ROUNDS=9]
 //!     make benchmark-shapes [ROUNDS=9]
+//!     make benchmark-account [ROUNDS=9]
 //!
 //! Every figure is nanoseconds a committed event, the median of the rounds; in each round every machine of a row takes its turn, and a ratio is the median of the
 //! rounds' ratios. The engine runs lowest in batches of 32 events and commits at every whole interval of simulated time that it can. The heap steps to the same times
 //! and writes the same 24 bytes an event. Where Debian's libns3-dev and python3-simpy are installed, the same line on ns-3's core and on SimPy has a column (benchmarks/line_ns3.cc, line_simpy.py).
-use jambfennel::{Calendar, Engine, Matter, ARITIES};
+use jambfennel::{Account, Calendar, Engine, Entry, Matter, ARITIES};
 use std::cmp::Reverse;
 use std::collections::BinaryHeap;
 use std::hint::black_box;
@@ -307,6 +308,77 @@ fn shapes(rounds: usize) {
     }
 }
 
+/// A log of so many events: of ten, three readings, six frames and a level.
+fn log(n: u64, events: usize) -> Vec<u8> {
+    let mut dice = Dice(7);
+    let mut part = vec![];
+    for time in 0..events as u64 {
+        let (station, from) = (dice.below(n), dice.below(n));
+        let (source, matter) = match dice.below(10) {
+            0..=2 => (station, (1, 0)),
+            3..=8 => (from, (2, dice.below(n) + 256 * dice.below(4))),
+            _ => (65_535, (3, dice.below(10_000))),
+        };
+        part.extend(reference::entry((time, station, source, time), matter));
+    }
+    part
+}
+
+/// A plain account: one pass over the entries, and the charges copied where all is well.
+fn plain(part: &[u8], n: u64, costs: [u64; 2], charges: &mut [u64]) -> Option<()> {
+    let entries = part.chunks_exact(24);
+    if !entries.remainder().is_empty() {
+        return None;
+    }
+    let mut next = [0; 256];
+    next[..n as usize].copy_from_slice(charges);
+    let mut passed = false;
+    for entry in entries {
+        let entry = Entry::of(entry.try_into().unwrap());
+        let (target, source, value) = (u64::from(entry.target), u64::from(entry.source), u64::from(entry.value));
+        if entry.time > reference::H || target >= n || (source >= n && source != 65_535) || !reference::suits(n, (entry.kind.into(), value)) {
+            return None;
+        }
+        let charge = &mut next[target as usize];
+        let (sum, over) = charge.overflowing_add(match entry.kind {
+            1 => costs[0],
+            2 => costs[1],
+            _ => 0,
+        });
+        *charge = sum;
+        passed |= over;
+    }
+    if passed {
+        return None;
+    }
+    charges.copy_from_slice(&next[..n as usize]);
+    Some(())
+}
+
+/// The account against a plain one: nanoseconds an entry, by how many a part has.
+fn accounts(rounds: usize) {
+    println!("| stations | entries a part | account | plain | account / plain |\n|---|---|---|---|---|");
+    for n in [16, 256] {
+        for entries in [4, 64, 4096] {
+            let part = log(n, entries);
+            let mut buffer = vec![0; Account::bytes(n as usize)];
+            let mut account = Account::open(n, 5, 7, &mut buffer).unwrap();
+            let mut charges = vec![0; n as usize];
+            let turns = 1_000_000 / entries;
+            let [a, b] = rounds_of(rounds, |k| {
+                let start = Instant::now();
+                for _ in 0..turns {
+                    if k == 0 { account.read(black_box(&part)).ok() } else { plain(black_box(&part), n, [5, 7], &mut charges) }.expect("taken");
+                }
+                Some(start.elapsed().as_nanos() as f64 / (turns * entries) as f64)
+            });
+            assert!(account.charges().eq(charges.iter().copied()));
+            let cell = |x: &Rounds| x.median().map_or("-".into(), |x| format!("{x:.1}"));
+            println!("| {n} | {entries} | {} | {} | {} |", cell(&a), cell(&b), a.ratio(&b));
+        }
+    }
+}
+
 fn main() {
     let words: Vec<String> = std::env::args().collect();
     if let [_, chosen, rest @ ..] = &words[..] {
@@ -314,6 +386,7 @@ fn main() {
         match chosen.as_str() {
             "widths" => return widths(rounds()),
             "shapes" => return shapes(rounds()),
+            "accounts" => return accounts(rounds()),
             _ => {}
         }
     }

@@ -1,13 +1,15 @@
-//! Plans, the engine and the calendar against simple ones written from the paper alone, call by call; then every call on damaged buffers.
+//! Plans, the engine, the calendar and the account against simple ones written from the paper alone, call by call; then every call of the engine on damaged buffers.
 //!
 //!     make fuzz [CASES=2000] [SEED=1]
 //!     make calendars [LISTS=400] [SEED=1]
+//!     make accounts [LISTS=400] [SEED=1]
 //!
 //! A case of plans is a drawn list of stations, written, and the plan damaged, read. A case of the engine is a drawn line, arity and width, openings with numbers in and
-//! out of range, and a drawn list of calls. Answers, logs and records are compared, and at the end the joined logs and the records with the plain machine. A
-//! difference prints the case's seed. `fuzz stack=64` runs the deepest rollback in a stack of so many KiB. `fuzz calendars` reads lines of calendar calls with their
-//! answers, as tools/calendar.py writes them, and makes the calls.
-use jambfennel::{Calendar, Engine, Entry, Plan, Refusal, State, Station, ARITIES};
+//! out of range, and a drawn list of calls. Answers, logs and records are compared, and at the end the joined logs and the records with the plain machine; an
+//! account takes every log. A case of the account is a drawn list of parts, good and damaged, and of questions, on drawn bytes too; all its bytes are compared. A
+//! difference prints the case's seed. `fuzz stack=64` runs the deepest rollback in a stack of so many KiB. `fuzz calendars` and `fuzz accounts` read lines of calls with
+//! their answers, as tools/calendar.py and tools/account.py write them, and make the calls.
+use jambfennel::{Account, Calendar, Engine, Entry, Plan, Refusal, State, Station, ARITIES};
 use std::io::BufRead;
 
 #[path = "../../reference/mod.rs"]
@@ -57,6 +59,9 @@ fn compare(seed: u64) -> u64 {
     let mut engine = Engine::open(&plan, arity, width, capacity, buffer).unwrap_or_else(|e| panic!("case {seed}: {e}"));
     let mut model = reference::Engine::open(&line, arity, width, capacity);
     let (mut posts, mut gone, mut logs) = (vec![], vec![], vec![]);
+    let (reading, frame) = (u32::MAX, 65_537);
+    let mut lent = vec![0xA5u8; Account::bytes(line.len())];
+    let mut account = Account::open(n, reading, frame, &mut lent).unwrap_or_else(|e| panic!("case {seed}: {e}"));
     let start = dice.pick(&[0, 0, 0, reference::H - 400]);
     // in one block or the next; or past the ring's 16, so that every count of bitmap words read is met
     let spread = if start == 0 && dice.one_in(2) { 20 * arity * arity * width } else { 100 };
@@ -107,6 +112,7 @@ fn compare(seed: u64) -> u64 {
                         let log = want.unwrap_or_else(|e| panic!("case {seed}, call {calls}: commit {time} accepted for {e}"));
                         let bytes: Vec<u8> = log.iter().flat_map(|(k, m)| reference::entry(*k, *m)).collect();
                         assert!(bytes == output[..len] && output[len..] == before[len..], "case {seed}, call {calls}: log of commit {time}");
+                        account.read(&output[..len]).unwrap_or_else(|e| panic!("case {seed}, call {calls}: log of commit {time}: {e}"));
                         logs.extend(bytes);
                     }
                     Err(e) => {
@@ -132,8 +138,19 @@ fn compare(seed: u64) -> u64 {
     for s in 0..n {
         assert_eq!(state(engine.record(s).unwrap()), machine.states[s as usize], "case {seed}: record {s}");
     }
+    // the account of the parts has what the joined log costs
+    let mut whole = reference::Account::within(Account::bytes(line.len()));
+    assert_eq!(whole.open(n, reading, frame).and_then(|_| whole.read(n, &logs)), Ok(()), "case {seed}: the joined logs in the simple account");
+    assert!(account.charges().map(u128::from).eq(whole.charges), "case {seed}: charges");
+    assert_eq!(account.total(), cost(reading, frame, &logs), "case {seed}: the sum of the charges");
     assert!(guards == (all[..32].to_vec(), all[size + 32..].to_vec()), "case {seed}: a byte outside the buffer");
     calls
+}
+
+// What the readings and the frames of a log cost.
+fn cost(reading: u32, frame: u32, log: &[u8]) -> u128 {
+    let of_kind = |kind| log.chunks_exact(24).filter(|bytes| Entry::of((*bytes).try_into().unwrap()).kind == kind).count() as u128;
+    u128::from(reading) * of_kind(1) + u128::from(frame) * of_kind(2)
 }
 
 // Openings of the engine and the calendar with numbers in and out of range. A refused one leaves the buffer as it was.
@@ -367,6 +384,201 @@ fn plans(seed: u64) -> u64 {
     6 + expected.len() as u64
 }
 
+// An entry that an account of n stations takes.
+fn entry(dice: &mut Dice, n: u64) -> (reference::Key, reference::Matter) {
+    let time = dice.pick(&[0, 1_000, reference::H - 1, reference::H]);
+    let source = if dice.one_in(2) { 65_535 } else { dice.below(n) };
+    let matter = match dice.below(5) {
+        0 | 1 => (1, 0),
+        2 | 3 => (2, dice.below(n) + 256 * dice.below(4)),
+        _ => (3, dice.pick(&[0, 5_000, 4_294_967_295])),
+    };
+    ((time, dice.below(n), source, dice.below(1 << 32)), matter)
+}
+
+// The same with one of its numbers at an edge, on either side of it.
+fn edged(dice: &mut Dice, n: u64) -> (reference::Key, reference::Matter) {
+    let (mut key, mut matter) = entry(dice, n);
+    let stations = [n - 1, n, n + 1, 255, 256, 65_534, 65_535];
+    match dice.below(5) {
+        0 => key.0 = dice.pick(&[reference::H, reference::H + 1, (1 << 40) + (1 << 32), 1 << 63, u64::MAX]),
+        1 => key.1 = dice.pick(&stations),
+        2 => key.2 = dice.pick(&stations),
+        3 => matter.0 = dice.pick(&[0, 1, 2, 3, 4, 257, 65_537, (1 << 24) + 1, 4_294_967_295]),
+        _ => matter.1 = 256 * dice.below(5) + dice.pick(&[0, 1, n - 1, n, 255, 65_536, 4_294_901_760]),
+    }
+    (key, matter)
+}
+
+// A part of a log, mostly right.
+fn part(dice: &mut Dice, n: u64) -> Vec<u8> {
+    let count = dice.pick(&[0, 1, 1, 2, 3, 8, 40]);
+    let near = if dice.one_in(4) { 1 + dice.below(count + 1) } else { 0 };
+    let mut bytes: Vec<u8> = (1..=count)
+        .flat_map(|k| {
+            let (key, matter) = if k == near { edged(dice, n) } else { entry(dice, n) };
+            reference::entry(key, matter)
+        })
+        .collect();
+    match dice.below(12) {
+        0 => bytes.truncate(dice.below(bytes.len() as u64 + 1) as usize),
+        1 => bytes.extend((0..dice.below(49)).map(|_| dice.below(256) as u8)),
+        2 if count > 0 => {
+            for _ in 0..1 + dice.below(2) {
+                let at = dice.below(bytes.len() as u64) as usize;
+                bytes[at] ^= 1 << dice.below(8);
+            }
+        }
+        3 if count > 0 => {
+            let at = dice.below(bytes.len() as u64) as usize;
+            bytes[at] = dice.below(256) as u8;
+        }
+        _ => {}
+    }
+    bytes
+}
+
+// An account: openings, parts and questions. The buffer stands between guard bytes; `mirror` has what all bytes must be. Counts the calls, the parts that are taken,
+// and those that are refused with 19 and with 20.
+fn charges(seed: u64) -> [u64; 4] {
+    let mut dice = Dice(seed.wrapping_mul(0x8CB9_2BA7_2F3D_8DD7) | 1);
+    let n = dice.pick(&[1, 2, 3, 40, 255, 256]);
+    let enough = Account::bytes(n as usize);
+    let size = enough + dice.pick(&[0, 0, 1, 8, 100]);
+    let costs = [0; 2].map(|_| dice.pick(&[0, 1, 5, 7, 1 << 31, u32::MAX]));
+    let other = |dice: &mut Dice| dice.pick(&[0, 1, 2, n - 1, n + 1, (size as u64 - 8) / 8 + 1, 256, 257, 65_536 + n, (1 << 32) + n, u64::MAX]);
+    let mut all: Vec<u8> = (0..size + 64).map(|_| dice.below(256) as u8).collect();
+    let mut mirror = all.clone();
+    let mut counted = [0; 4];
+    // openings that may be refused, in a part of the buffer
+    for _ in 0..dice.below(4) {
+        let end = 32 + dice.pick(&[0, 7, 8, enough - 8, enough - 1, enough, size]);
+        let stations = if dice.one_in(2) { n } else { other(&mut dice) };
+        let mut model = reference::Account::within(end - 32);
+        let said = number(Account::open(stations, costs[1], costs[0], &mut all[32..end]).map(|_| ()));
+        assert_eq!(said, model.open(stations, costs[1], costs[0]), "case {seed}: an opening of {stations} stations in {} bytes", end - 32);
+        if said.is_ok() {
+            mirror[32..32 + Account::bytes(stations as usize)].copy_from_slice(&model.bytes());
+        }
+        assert!(all == mirror, "case {seed}: bytes after an opening of {stations} stations in {} bytes", end - 32);
+        counted[0] += 1;
+    }
+    let mut model = reference::Account::within(size);
+    let opened = number(Account::open(n, costs[0], costs[1], &mut all[32..size + 32]).map(|_| ()));
+    assert_eq!((opened, model.open(n, costs[0], costs[1])), (Ok(()), Ok(())), "case {seed}: the opening");
+    mirror[32..enough + 32].copy_from_slice(&model.bytes());
+    assert!(all == mirror, "case {seed}: bytes after the opening");
+    // some are handed over with charges near the largest, or with any bytes
+    match dice.below(4) {
+        0 => {
+            for _ in 0..1 + dice.below(4) {
+                let at = 40 + 8 * dice.below(n) as usize;
+                let charge = u64::MAX - dice.below(3) - dice.pick(&[0, 1, 2, 10]) * u64::from(dice.pick(&costs));
+                all[at..at + 8].copy_from_slice(&charge.to_le_bytes());
+            }
+        }
+        1 => all[32..enough + 32].iter_mut().for_each(|byte| *byte = if dice.one_in(2) { 255 } else { dice.below(256) as u8 }),
+        _ => {}
+    }
+    mirror.copy_from_slice(&all);
+    model = reference::Account::of(n, &all[32..size + 32]);
+    let (mut start, mut log) = (model.clone(), vec![]);
+    for _ in 0..10 + dice.below(40) {
+        counted[0] += 1;
+        let call = counted[0];
+        let stations = if dice.one_in(12) { other(&mut dice) } else { n };
+        let mut account = Account::resume(stations, &mut all[32..size + 32]);
+        if dice.one_in(3) {
+            let station = if dice.one_in(4) { dice.pick(&[n, n + 1, 256, 65_536, 1 << 32, u64::MAX]) } else { dice.below(n) };
+            let simple = if stations == n { model.clone() } else { reference::Account::of(stations, &mirror[32..size + 32]) };
+            assert_eq!(number(account.charge(station)), simple.charge(stations, station), "case {seed}, call {call}: charge {station} of {stations}");
+        } else {
+            let part = part(&mut dice, n);
+            let said = number(account.read(&part));
+            // with another N the answer is that of what the bytes stand for
+            let mut simple = if stations == n { model.clone() } else { reference::Account::of(stations, &mirror[32..size + 32]) };
+            assert_eq!(said, simple.read(stations, &part), "case {seed}, call {call}: a part of {} bytes for {stations} stations", part.len());
+            match said {
+                Ok(()) => {
+                    counted[1] += 1;
+                    mirror[32..32 + Account::bytes(stations as usize)].copy_from_slice(&simple.bytes());
+                    if stations == n {
+                        (model, log) = (simple, [log, part].concat());
+                    } else {
+                        model = reference::Account::of(n, &mirror[32..size + 32]);
+                        (start, log) = (model.clone(), vec![]);
+                    }
+                }
+                Err(19) => counted[2] += 1,
+                Err(20) => counted[3] += 1,
+                Err(_) => {}
+            }
+        }
+        assert!(all == mirror, "case {seed}, call {call}: bytes");
+    }
+    let account = Account::resume(n, &mut all[32..size + 32]);
+    assert!(account.charges().map(u128::from).eq(model.charges), "case {seed}: the charges at the end");
+    let sum = start.charges.iter().sum::<u128>() + cost(start.reading, start.frame, &log);
+    assert_eq!(account.total(), sum, "case {seed}: the sum of the charges");
+    counted
+}
+
+// Lines of calls on an account with their answers, made on the library's and on the simple one. An opening of another length has a buffer of its own, between guard
+// bytes.
+fn accounts(lines: impl Iterator<Item = String>) -> [u64; 2] {
+    let mut all = vec![0xA5u8; 64];
+    let mut model = reference::Account::default();
+    let mut part = vec![0xA5u8; 24 * 256];
+    let mut counted = [0; 2];
+    for line in lines {
+        let (call, expected) = line.split_once(": ").unwrap_or((&line, ""));
+        let mut words = call.split(' ');
+        let name = words.next().unwrap();
+        let numbers: Vec<u64> = words.map(|word| word.parse().expect("a number")).collect();
+        if let ("open", &[.., bytes]) = (name, &numbers[..]) {
+            counted[0] += 1;
+            if bytes as usize != model.room {
+                (model, all) = (reference::Account::within(bytes as usize), vec![0xA5; bytes as usize + 64]);
+            }
+        }
+        let before = all.clone();
+        let end = all.len() - 32;
+        let buffer = &mut all[32..end];
+        let told = |answer: Result<(), u64>| answer.map_or_else(|number| format!("no {number}"), |_| "ok".into());
+        let units = |answer: Result<u64, u64>| answer.map_or_else(|number| format!("no {number}"), |units| units.to_string());
+        let (said, simple) = match (name, &numbers[..]) {
+            ("open", &[n, reading, frame, _]) => {
+                let [reading, frame] = [reading, frame].map(|number| number.try_into().expect("32 bits"));
+                (told(number(Account::open(n, reading, frame, buffer).map(|_| ()))), told(model.open(n, reading, frame)))
+            }
+            ("read", &[n, bytes]) => {
+                let part = &part[..bytes as usize];
+                (told(number(Account::resume(n, buffer).read(part))), told(model.read(n, part)))
+            }
+            ("charge", &[n, station]) => (units(number(Account::resume(n, buffer).charge(station))), units(model.charge(n, station))),
+            ("sum", &[n]) => (Account::resume(n, buffer).total().to_string(), model.charges.iter().sum::<u128>().to_string()),
+            // an entry of the part, a charge that the account is handed over with, the bytes after it
+            ("entry", &[k, time, target, kind, source, number, value]) => {
+                part[24 * k as usize..][..24].copy_from_slice(&reference::entry((time, target, source, number), (kind, value)));
+                continue;
+            }
+            ("put", &[station, units]) => {
+                buffer[8 + 8 * station as usize..][..8].copy_from_slice(&units.to_le_bytes());
+                model.charges[station as usize] = units.into();
+                continue;
+            }
+            ("", _) => continue,
+            _ => panic!("no such call: {line}"),
+        };
+        assert!(said == expected && simple == expected, "{line}: the library says {said}, the simple account {simple}");
+        let account = if model.n == 0 { vec![] } else { model.bytes() };
+        let end = 32 + account.len();
+        assert!(all[32..end] == account && all[..32] == before[..32] && all[end..] == before[end..], "{line}: bytes");
+        counted[1] += 1;
+    }
+    counted
+}
+
 // Lines of calls on a calendar with their answers, made on the library's and on the simple one. Each opening has a buffer of its own, as long as the line says, between
 // guard bytes.
 fn calendars(lines: impl Iterator<Item = String>) -> [u64; 2] {
@@ -425,6 +637,11 @@ fn main() {
         println!("{openings} openings of calendars, {calls} calls: answers as those of tools/calendar.py and of the simple calendar");
         return;
     }
+    if std::env::args().nth(1).as_deref() == Some("accounts") {
+        let [openings, calls] = accounts(std::io::stdin().lock().lines().map(|line| line.expect("text")));
+        println!("{openings} openings of accounts, {calls} calls: answers as those of tools/account.py and of the simple account");
+        return;
+    }
     let arguments: Vec<u64> = std::env::args().skip(1).map(|a| a.parse().expect("a number")).collect();
     let cases = arguments.first().copied().unwrap_or(2_000);
     let seed = arguments.get(1).copied().unwrap_or(1);
@@ -433,7 +650,10 @@ fn main() {
     let calls: u64 = (seed..seed + cases).map(openings).sum();
     println!("{calls} openings: answers as the paper's list of numbers has them");
     let calls: u64 = (seed..seed + cases).map(compare).sum();
-    println!("{cases} lists, {calls} calls: answers, logs and records as in the simple engine and the plain machine");
+    println!("{cases} lists, {calls} calls: answers, logs and records as in the simple engine and the plain machine, and an account takes each log");
+    let counted = (seed..seed + cases).map(charges).fold([0; 4], |sums, counted| std::array::from_fn(|k| sums[k] + counted[k]));
+    let [calls, taken, parts, over] = counted;
+    println!("{cases} accounts, {calls} calls: answers and bytes as in the simple account; {taken} parts taken, {parts} refused with 19, {over} with 20");
     let calls: u64 = (seed..seed + cases).map(damage).sum();
     println!("{cases} damaged buffers, {calls} calls: each ended, stayed in its buffer, and changed nothing where it was refused");
     println!("a rollback of {} events, and 2000 damaged ones, in a stack of 256 KiB", in_stack(256, cascade));
