@@ -108,11 +108,16 @@ is-done printed room d w = record {
   written = λ l. w;
 }
 
+-- a command that is obeyed
+pub obeys-in-text : {c : Command} {xs ys before : List ℕ} {r : ℕ} {after : List ℕ} → 6240 ≤ length before → ObeysCommand c xs before r ys after
+    → InText (Obeyed c xs ys) xs before r ys after
+obeys-in-text room O = is-done (O .printed) room (O .obeyed) (O .written)
+
 module _ {line xs before : List ℕ} {r : ℕ} {p : Parsed} (room : 6240 ≤ length before) (P : Parses line p) where
-  pub replies : {ys after : List ℕ} (c : Command) → p ≡ Says.Is c → ObeysCommand c xs before r ys after → InText (Replied line xs ys) xs before r ys after
-  replies c e O =
+  pub replies : {ys after : List ℕ} (c : Command) → p ≡ Says.Is c → InText (Obeyed c xs ys) xs before r ys after → InText (Replied line xs ys) xs before r ys after
+  replies c e I =
       let q = P .accepted c (ap parsedSaid e) in
-      is-done (O .printed) room (obeyed c (q .1) (q .0) (O .obeyed)) (O .written)
+      is-done (I .printed) room (obeyed c (q .1) (q .0) (I .lines room)) (I .written room)
 
   pub replies-8 : {after : List ℕ} (e : Refusal) → p ≡ Says.Refused e → Written (outputOf (Out.No (numberOf e))) before r after
       → InText (Replied line xs xs) xs before r xs after

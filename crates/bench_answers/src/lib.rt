@@ -10,7 +10,7 @@ ghost use Rattle.bench_command.specs.declared.Command.the-variants.{Commit as A
 ghost use Rattle.bench_command.specs.declared.Output.the-variants.{No, Commit};
 ghost use Rattle.bench_command.specs.Lines.{outputOf};
 ghost use Rattle.bench_answers.specs.Shown.{entryLines, linesOf};
-ghost use Rattle.bench_answers.specs.Promises.{Written, InText, OpensBench, Replied};
+ghost use Rattle.bench_answers.specs.Promises.{Written, InText, OpensBench, Obeyed, Replied};
 ghost use Rattle.bench_answers.specs.Steps.{ObeysCommand};
 use bench_command::Command;
 use bench_command::Output;
@@ -115,12 +115,15 @@ fn commit(b: &mut [u8], time: u64, text: &mut [u8]) -> usize
     }
 }
 
-// ---- command lines
+// ---- commands, and their lines
 
-fn obey(b: &mut [u8], c: Command, text: &mut [u8]) -> usize
-    requires { ⌜ 6240 ≤ length (now text) ⌝ }
-    ensures { λ r. ⌜ ObeysCommand c (now (b .entry)) (now (text .entry)) r (now (b .exit)) (now (text .exit)) ⌝ }
+// A command is asked of the engine; answers how many bytes of the text are to be printed.
+pub fn obey(b: &mut [u8], c: Command, text: &mut [u8]) -> usize
+    ensures { λ r. ⌜ InText (Obeyed c (now (b .entry)) (now (b .exit))) (now (b .entry)) (now (text .entry)) r (now (b .exit)) (now (text .exit)) ⌝ }
 {
+    if text.len() < TEXT {
+        return 0;
+    }
     match c {
         Command::Post {
             station,
