@@ -24,6 +24,7 @@ extern "C" {
     fn account_open(n: u64, reading: u32, frame: u32, b: *mut u8, len: usize) -> u64;
     fn account_read(b: *mut u8, len: usize, n: u64, part: *const u8, part_len: usize) -> u64;
     fn account_charge(b: *const u8, len: usize, n: u64, station: u64, at: *mut [u64; 1]) -> u64;
+    fn small_lists_write(out: *mut u8, len: usize) -> u64;
 }
 
 fn answer<const N: usize>(call: impl FnOnce(*mut [u64; N]) -> u64) -> Result<[u64; N], Refusal> {
@@ -119,4 +120,8 @@ pub fn read_part(b: &mut [u8], n: u64, part: &[u8]) -> Result<(), Refusal> {
 
 pub fn charge(b: &[u8], n: u64, station: u64) -> Result<[u64; 1], Refusal> {
     answer(|at| unsafe { account_charge(b.as_ptr(), b.len(), n, station, at) })
+}
+
+pub fn write_lists(out: &mut [u8]) -> Result<(), Refusal> {
+    done(unsafe { small_lists_write(out.as_mut_ptr(), out.len()) })
 }

@@ -1,4 +1,4 @@
-//! The line simulator: an engine on one lent buffer, its plan, its calendar, and an account of what its log costs.
+//! The line simulator: an engine on one lent buffer, its plan, its calendar, an account of what its log costs, and all small lists of calls.
 //!
 //! The calls are proved (see `docs/READING.md`); this crate adds slices and `Result`s. Every call takes any bytes and any numbers: nothing has to be tested first, a
 //! refusal changes nothing, and no call reads or writes outside of what it is lent.
@@ -29,6 +29,7 @@ mod calls;
 pub mod account;
 pub mod calendar;
 pub mod plan;
+pub mod small_lists;
 
 pub use account::Account;
 pub use calendar::Calendar;
