@@ -1,9 +1,10 @@
 -- The one file that opens what running an event does: the state it leaves but for the count of sends, and at most two sends, each of them one of four.
 -- The laws of running an event are read off this.
 use mathlib.Core.Path.{_≡_, refl}
+use mathlib.Core.Logic.{_≢_}
 use mathlib.Core.Bool.{Bool, true, false, cond}
 use Prim.Native.Nat.{ℕ, suc, _+_, _<_}
-use borrow.Author.Tests.{ltb-true}
+use borrow.Author.Tests.{ltb-true, lt-leb, ne-eqb}
 use lib.Dec.{ltb, leb, eqb}
 use Rattle.generator.specs.Draw.{nextDraw}
 use Rattle.line.specs.declared.Config.{Config}
@@ -59,3 +60,21 @@ by-outcome P c s t st m f g = go (possible c s t st m)
     go (none {v} l) = f v l
     go (one {v} {u} {to} {k} l a) = g u to k _ a (f v l)
     go (two {v} {u} {to} {u′} {to′} {k} {k′} l a b) = g u′ to′ k′ _ b (g u to k _ a (f v l))
+
+-- ---- which one it is
+
+-- a reading, at station 0 and elsewhere
+pub first-reads : (c : Config) (t : ℕ) (st : State) → runMatter c 0 t Read st ≡ silent st
+unfolding runMatter runRead
+first-reads c t st = refl
+
+pub other-reads : (c : Config) (s t : ℕ) (st : State) → s ≢ 0
+    → runMatter c s t Read st ≡ send s (t + c .hop) (c .parent) (Frame s 0) (send s (t + period c st) s Read (silent st))
+unfolding runMatter runRead
+other-reads c s t st h = rw (ne-eqb s 0 h)
+
+-- a frame at station 0 that noise does not lose
+pub first-hears : (c : Config) (t origin repeats : ℕ) (st : State) → c .noise < nextDraw (st .draw)
+    → runMatter c 0 t (Frame origin repeats) st ≡ silent (hear t (drawnState st))
+unfolding runMatter runFrame pass
+first-hears c t origin repeats st h = rw (lt-leb (nextDraw (st .draw)) (c .noise) h)
