@@ -12,7 +12,7 @@ use Rattle.line.proofs.All.{all-map}
 use Rattle.entry.specs.Entry.{entries}
 use Rattle.rules.specs.Demand.{logIn, logs}
 use Rattle.rules.proofs.Calls.LogEvents.{LogEvent, log-events}
-use Rattle.engine_promises.specs.Represents.{lineOf}
+use Rattle.plan_format.specs.Line.{lineOf}
 use Rattle.engine.specs.Session.{Whole}
 use Rattle.engine.proofs.Printouts.{listed}
 use Rattle.account_answers.specs.declared.AccountAnswer.{AccountAnswer}

@@ -13,7 +13,7 @@ use Rattle.line.specs.Order.{All}
 use Rattle.rules.specs.Machine.{Machine}
 use Rattle.rules.specs.Engine.{Setting, Answer, Refused as NotDone, Posted, Retracted, Ran, RanLowest, Committed, Recorded}
 use Rattle.rules.specs.Demand.{Made, logIn, logs, Comes}
-use Rattle.engine_promises.specs.Represents.{lineOf}
+use Rattle.plan_format.specs.Line.{lineOf}
 use Rattle.engine.specs.Printouts.{Printout}
 use Rattle.account_answers.specs.declared.AccountAnswer.{AccountAnswer}
 use Rattle.account_answers.specs.declared.AccountAnswer.the-variants.{Done, Refused}

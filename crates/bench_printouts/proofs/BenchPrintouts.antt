@@ -11,7 +11,7 @@ use Rattle.rules.specs.Engine.{chosen, opened}
 use Rattle.rules.proofs.Calls.Invariant.{opened-inv}
 use Rattle.engine_answers.specs.declared.OpenAnswer.{OpenAnswer}
 use Rattle.engine_answers.specs.declared.OpenAnswer.the-variants.{Done, Refused}
-use Rattle.engine_promises.specs.Represents.{lineOf}
+use Rattle.plan_format.specs.Line.{lineOf}
 use Rattle.engine_promises.specs.Promises.{openCases, Opens}
 use Rattle.bench_answers.specs.Shown.{openLines}
 use Rattle.bench_answers.specs.Promises.{Replied}

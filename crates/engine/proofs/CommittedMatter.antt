@@ -1,7 +1,7 @@
 -- The log is the plain machine's, which is fed posts that number 10 accepts.
 use Rattle.line.proofs.All.{all-map}
 use Rattle.rules.proofs.Calls.LogEvents.{log-events}
-use Rattle.engine_promises.specs.Represents.{lineOf}
+use Rattle.plan_format.specs.Line.{lineOf}
 use Rattle.engine.specs.CommittedMatter.{CommittedMatter}
 
 pub committed-matter : CommittedMatter

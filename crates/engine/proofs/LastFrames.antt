@@ -8,7 +8,7 @@ use Rattle.rules.specs.Machine.{start}
 use Rattle.rules.specs.Engine.{Setting}
 use Rattle.rules.specs.Demand.{Made, lastCommit}
 use Rattle.rules.proofs.Machine.States.{states-all}
-use Rattle.engine_promises.specs.Represents.{lineOf}
+use Rattle.plan_format.specs.Line.{lineOf}
 use Rattle.engine.specs.Session.{Whole}
 use Rattle.engine.specs.LastFrames.{LastFrames}
 

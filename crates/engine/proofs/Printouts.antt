@@ -7,7 +7,7 @@ use Rattle.rules.specs.Demand.{Made}
 use Rattle.rules.proofs.Calls.Alike.{alike}
 use Rattle.rules.proofs.Calls.ButCounts.{alike-but-counts}
 use Rattle.engine_answers.specs.declared.OpenAnswer.the-variants.{Done}
-use Rattle.engine_promises.specs.Represents.{lineOf}
+use Rattle.plan_format.specs.Line.{lineOf}
 use Rattle.engine.specs.Session.{Whole}
 use Rattle.engine.specs.Printouts.{Printout, Printouts}
 use Rattle.engine.proofs.Session.{whole}

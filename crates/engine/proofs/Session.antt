@@ -14,7 +14,8 @@ use Rattle.rules.specs.Calls.{Answers, refuse, recorded}
 use Rattle.rules.specs.Demand as D
 use Rattle.rules.specs.Demand.{Made, Calls}
 use Rattle.rules.proofs.Calls.Demand3 as W
-use Rattle.engine_promises.specs.Represents.{lineOf, Represents}
+use Rattle.plan_format.specs.Line.{lineOf}
+use Rattle.engine_promises.specs.Represents.{Represents}
 use Rattle.engine_promises.specs.Promises.{Becomes}
 use Rattle.engine.specs.Session.{Chain, end, post, retract, run-station, run-lowest, commit, record-of, Claim}
 

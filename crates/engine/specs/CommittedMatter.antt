@@ -6,7 +6,7 @@ use Rattle.line.specs.Matter.{Suits}
 use Rattle.line.specs.Order.{All}
 use Rattle.rules.specs.Engine.{Setting}
 use Rattle.rules.specs.Demand.{Made}
-use Rattle.engine_promises.specs.Represents.{lineOf}
+use Rattle.plan_format.specs.Line.{lineOf}
 use Rattle.engine.specs.Session.{Whole}
 
 -- of every list of calls after an accepted opening: each event of the log that the joined logs are has a matter that number 10 accepts

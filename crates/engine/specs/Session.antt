@@ -18,7 +18,8 @@ use Rattle.engine_answers.specs.declared.RunAnswer.{RunAnswer}
 use Rattle.engine_answers.specs.declared.LowestAnswer.{LowestAnswer}
 use Rattle.engine_answers.specs.declared.CommitAnswer.{CommitAnswer}
 use Rattle.engine_answers.specs.declared.RecordAnswer.{RecordAnswer}
-use Rattle.engine_promises.specs.Represents.{lineOf, Represents}
+use Rattle.plan_format.specs.Line.{lineOf}
+use Rattle.engine_promises.specs.Represents.{Represents}
 use Rattle.engine_promises.specs.Answers.{openSays, postSaid, retractSaid, runSaid, lowestSaid, commitSaid, recordSaid}
 use Rattle.engine_promises.specs.Promises.{openCases, Opens, Answered, Commits}
 

@@ -18,7 +18,7 @@ use Rattle.engine_records.specs.Records.{stateAt, putState, storedConfig, putCo
 use Rattle.line.specs.Widths.{ConfigFits}
 use Rattle.engine_records.proofs.Cells.{length-write, read-written, read-beside}
 use Rattle.engine_rows.proofs.Rows.{configOf, stateOf, config-in, state-in, stations, row-other, station-room}
-use Rattle.engine_promises.specs.Represents.{lineOf}
+use Rattle.plan_format.specs.Line.{lineOf}
 use Rattle.engine_opening.specs.Steps.{StationsBegun}
 
 -- stations 0 to s - 1 have them

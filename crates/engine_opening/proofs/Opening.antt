@@ -27,7 +27,8 @@ use Rattle.engine_events.specs.Promises.{AfterHeader}
 use Rattle.engine_moves.specs.Promises.{ClearsEvents}
 use Rattle.engine_answers.specs.declared.OpenAnswer.{OpenAnswer}
 use Rattle.engine_answers.specs.declared.OpenAnswer.the-variants.{Done, Refused as Unopened}
-use Rattle.engine_promises.specs.Represents.{lineOf, Represents}
+use Rattle.plan_format.specs.Line.{lineOf}
+use Rattle.engine_promises.specs.Represents.{Represents}
 use Rattle.engine_promises.specs.Answers.{openSays, openStation}
 use Rattle.engine_promises.specs.Promises.{choiceCases, openCases, Opens}
 use Rattle.engine_opening.specs.Steps.{StationsBegun}

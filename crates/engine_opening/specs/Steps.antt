@@ -6,7 +6,7 @@ use lib.ListN.{length}
 use Rattle.line.specs.Station.{initial}
 use Rattle.engine_rows.specs.Layout.{stationRow, slotRow}
 use Rattle.engine_records.specs.Records.{stateAt, storedConfig}
-use Rattle.engine_promises.specs.Represents.{lineOf}
+use Rattle.plan_format.specs.Line.{lineOf}
 
 -- stations 0 to n - 1 have the plan's numbers and their first states
 pub record StationsBegun (plan : List ℕ) (n : ℕ) (xs ys : List ℕ) : Type 0 where

@@ -15,7 +15,8 @@ use Rattle.plan_format.specs.Plan.{count}
 use Rattle.plan_format.specs.Reading.{planCases}
 use Rattle.engine_answers.specs.declared.OpenAnswer.{OpenAnswer}
 use Rattle.engine_answers.specs.declared.OpenAnswer.the-variants.{Done, Refused as Unopened}
-use Rattle.engine_promises.specs.Represents.{lineOf, Represents}
+use Rattle.plan_format.specs.Line.{lineOf}
+use Rattle.engine_promises.specs.Represents.{Represents}
 use Rattle.engine_promises.specs.Answers.{openSays, openStation}
 
 -- ---- open

@@ -7,13 +7,8 @@ use Rattle.engine_rows.specs.Layout.{wordPlace, capacityWord, commitTimeWord, n
 use Rattle.line.specs.Station.{Plan, InRange}
 use Rattle.rules.specs.Engine.{Engine, opened}
 use Rattle.rules.specs.Demand.{Made, Calls}
-use Rattle.plan_format.specs.Plan.{count, stationAt}
 use Rattle.engine_index.specs.Represents.{Cell}
 use Rattle.engine_events.specs.Represents.{Holds}
-
--- the line of a plan's bytes
-unfoldable pub lineOf : List ℕ → Plan
-lineOf plan = record { count = count plan; config = λ s. stationAt plan s .config }
 
 -- an engine that the rules make of an opening and calls after it
 pub record Reached (p : Plan) (e : Engine) : Type 0 where
