@@ -1,0 +1,3 @@
+pub mod Checking
+pub mod Summing
+pub mod Answering
