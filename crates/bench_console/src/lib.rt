@@ -3,17 +3,9 @@
 ghost use mathlib.Core.List.{List, [], _∷_, _++_};
 ghost use Prim.Native.Nat.{ℕ, _≤_};
 ghost use lib.ListN.{length, take as List·take};
-ghost use Rattle.io.specs.Counts.{Counts};
 ghost use Rattle.bench_console.specs.Steps.{Printed, Console, ReadOn, Within, AnswersAll};
-use libc::STDOUT_FILENO;
-
-// The first n bytes of a text are written to the standard output. This is the one place that writes. The kit's contracts say nothing of what reaches a
-// file, so none can be stated here: that these are the right bytes is what the calls that made the text promise.
-fn put(text: &[u8], n: usize) {
-    if n <= text.len() {
-        io::write_all(STDOUT_FILENO, &text[..n]);
-    }
-}
+use console::put;
+use console::read_plan;
 
 // ---- command lines
 
@@ -103,17 +95,6 @@ fn read_all(b: &mut [u8])
 }
 
 // ---- the program
-
-// The bytes of a plan's file; none where it can't be read. No plan is longer than the buffer lent here, and a longer file is refused for its first bytes.
-fn read_plan(path: &[u8], plan: &mut [u8]) -> usize
-    ensures { λ r. ⌜ Counts r (now (plan .exit)) ⌝ }
-{
-    let fd = os::open_read(path);
-    if fd < 0 {
-        return 0;
-    }
-    io::read_full(fd, plan)
-}
 
 // The plan in that file is opened, and the command lines of the standard input are answered. It lends nothing to its caller and returns nothing, so its
 // contract has nothing to speak of: what it does is in the contracts of `open` and `read_all`.
