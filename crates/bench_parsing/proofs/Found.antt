@@ -2,18 +2,19 @@
 use mathlib.Core.Path.{_≡_, refl, sym, ap, _∙_}
 use mathlib.Core.Bool.{Bool, true, false}
 use mathlib.Core.List.{List, [], _∷_, _++_, append-nil}
-use Prim.Native.Nat.{ℕ, suc, _+_, _-_, _<_, _≤_}
+use Prim.Native.Nat.{ℕ, _+_, _-_, _<_, _≤_}
 use native.Mathlib.Omega.{arith}
 use native.Mathlib.Numerals.{add-one}
 use lib.Dec.{eqb}
-use lib.ListN.{length, getD, drop, length-drop, drop-of-length-le}
+use lib.ListN.{length, getD, drop, length-append, length-drop, drop-of-length-le}
 use lib.Seq.{drop-drop, drop-cons, getD-drop, drop-length}
 use borrow.Author.Tests.{eqb-true, eqb-false}
 use Rattle.bench_parsing.specs.declared.Number.{Number}
 use Rattle.bench_parsing.specs.declared.Number.the-variants.{Value, Absent}
 use Rattle.bench_command.specs.Decimal.{decimal, Fits, Stops}
 use Rattle.bench_command.specs.Numeral.{digitCount, total}
-use Rattle.bench_parsing.specs.Steps.{Numbers, Lasts}
+use Rattle.bench_parsing.specs.Promises.{Lasts}
+use Rattle.bench_parsing.specs.Steps.{Numbers}
 use Rattle.bench_command.proofs.Numerals.{count-stops, total-stops, count-within}
 use Rattle.bench_command.proofs.Reading.{length-one, length-some, count-decimal, total-decimal, lead-decimal, says}
 
@@ -110,32 +111,33 @@ module _ (xs : List ℕ) (at : ℕ) where
 
 -- ---- where nothing stands after it
 
-module _ (xs : List ℕ) (at : ℕ) (r : Number) (n : Numbers (32 ∷ []) xs at r) where
-  pub last-some : (v next : ℕ) → r ≡ Value v next → next ≡ length xs → Lasts xs at (Value v next)
+module _ (lead xs : List ℕ) (at : ℕ) (r : Number) (n : Numbers lead xs at r) where
+  pub last-some : (v next : ℕ) → r ≡ Value v next → next ≡ length xs → Lasts lead xs at (Value v next)
   last-some v next e z =
       let h = n .found v next e in
       let end : drop next xs ≡ [] = ap (λ (m : ℕ). drop m xs) z ∙ drop-length xs in
-      let text : drop at xs ≡ 32 ∷ decimal v = h .1 ∙ ap (λ (t : List ℕ). 32 ∷ (decimal v ++ t)) end ∙ ap (λ (t : List ℕ). 32 ∷ t) (append-nil (decimal v)) in
+      let text : drop at xs ≡ lead ++ decimal v = h .1 ∙ ap (λ (t : List ℕ). lead ++ (decimal v ++ t)) end ∙ ap (λ (t : List ℕ). lead ++ t) (append-nil (decimal v)) in
       record {
-        found = λ w m q. let a : v ≡ w = cc in (omega (arith, a, h .0), text ∙ ap (λ (u : ℕ). 32 ∷ decimal u) a);
+        found = λ w m q. let a : v ≡ w = cc in (omega (arith, a, h .0), text ∙ ap (λ (u : ℕ). lead ++ decimal u) a);
         absent = λ q. let q : _≡_ {A = ℕ} 0 1 = cc in absurd (omega arith);
       }
 
   -- what the search says of a number that stands there to the end
-  sole : (v : ℕ) → Fits v → drop at xs ≡ 32 ∷ decimal v → r ≡ Value v (length xs)
+  sole : (v : ℕ) → Fits v → drop at xs ≡ lead ++ decimal v → r ≡ Value v (length xs)
   sole v f e =
-      let size : length xs - at ≡ suc (length (decimal v)) = sym (length-drop at xs) ∙ ap length e in
-      n .finds v [] f (e ∙ ap (λ (t : List ℕ). 32 ∷ t) (sym (append-nil (decimal v)))) tt ∙ ap (λ (m : ℕ). Value v m) (omega (arith, size))
+      let size : length xs - at ≡ length lead + length (decimal v) = sym (length-drop at xs) ∙ ap length e ∙ length-append lead (decimal v) in
+      n .finds v [] f (e ∙ ap (λ (t : List ℕ). lead ++ t) (sym (append-nil (decimal v)))) tt
+      ∙ ap (λ (m : ℕ). Value v m) (omega (arith, size, length-some v f))
 
-  none-last : ((v : ℕ) → r ≡ Value v (length xs) → ⊥) → Lasts xs at Absent
+  none-last : ((v : ℕ) → r ≡ Value v (length xs) → ⊥) → Lasts lead xs at Absent
   none-last h =
       record {
         found = λ v next e. let q : _≡_ {A = ℕ} 0 1 = cc in absurd (omega arith);
         absent = λ q v f e. h v (sole v f e);
       }
 
-  pub last-none : r ≡ Absent → Lasts xs at Absent
+  pub last-none : r ≡ Absent → Lasts lead xs at Absent
   last-none a = none-last (λ v e. let q : _≡_ {A = ℕ} 0 1 = cc in omega arith)
 
-  pub last-more : (v next : ℕ) → r ≡ Value v next → (next ≡ length xs → ⊥) → Lasts xs at Absent
+  pub last-more : (v next : ℕ) → r ≡ Value v next → (next ≡ length xs → ⊥) → Lasts lead xs at Absent
   last-more v next a h = none-last (λ w e. h (cc))

@@ -1,14 +1,14 @@
 -- What the private steps of reading ensure.
 use mathlib.Core.Path.{_≡_}
 use mathlib.Core.Bool.{Bool, true, false, cond}
-use mathlib.Core.List.{List, _∷_, _++_}
+use mathlib.Core.List.{List, _++_}
 use Prim.Native.Nat.{ℕ, _+_, _≤_}
 use lib.Dec.{leb}
 use lib.ListN.{length, drop}
 use Rattle.bench_parsing.specs.declared.Total.{Total}
 use Rattle.bench_parsing.specs.declared.Total.the-variants.{Sum, Over}
 use Rattle.bench_parsing.specs.declared.Number.{Number}
-use Rattle.bench_parsing.specs.declared.Number.the-variants.{Value, Absent}
+use Rattle.bench_parsing.specs.declared.Number.the-variants.{Value}
 use Rattle.bench_command.specs.Decimal.{decimal, Fits, Stops}
 
 -- whether a line begins with a word
@@ -21,11 +21,6 @@ pub record Numbers (lead : List ℕ) (xs : List ℕ) (at : ℕ) (r : Number) : T
   pub found : (v next : ℕ) → r ≡ Value v next → Fits v × (drop at xs ≡ lead ++ (decimal v ++ drop next xs)) × (next ≤ length xs)
   pub finds : (v : ℕ) (rest : List ℕ) → Fits v → drop at xs ≡ lead ++ (decimal v ++ rest) → Stops rest
       → r ≡ Value v (at + length lead + length (decimal v))
-
--- the number after one space from byte `at` on, where nothing stands after it
-pub record Lasts (xs : List ℕ) (at : ℕ) (r : Number) : Type 0 where
-  pub found : (v next : ℕ) → r ≡ Value v next → Fits v × (drop at xs ≡ 32 ∷ decimal v)
-  pub absent : r ≡ Absent → (v : ℕ) → Fits v → drop at xs ≡ 32 ∷ decimal v → ⊥
 
 -- a total that fits 64 bits
 abbrev pub totalOf : ℕ → Total

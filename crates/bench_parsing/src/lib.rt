@@ -1,12 +1,12 @@
-// A command line of the bench to its command.
+// A command line of the bench to its command, and a line that is one number.
 
 ghost use mathlib.Core.Path.{_≡_};
 ghost use mathlib.Core.List.{[], _∷_, _++_};
 ghost use lib.ListN.{drop};
 ghost use Rattle.bench_command.specs.Numeral.{digitCount, total};
 ghost use Rattle.bench_command.specs.Lines.{postWord, retractWord, runWord, commitWord};
-ghost use Rattle.bench_parsing.specs.Promises.{Parses};
-ghost use Rattle.bench_parsing.specs.Steps.{Begins, Numbers, Lasts, totalOf};
+ghost use Rattle.bench_parsing.specs.Promises.{Parses, Lasts};
+ghost use Rattle.bench_parsing.specs.Steps.{Begins, Numbers, totalOf};
 use bench_command::Command;
 use bench_command::Parsed;
 use refusal::Refusal;
@@ -140,7 +140,7 @@ fn parse_post(line: &[u8]) -> Parsed
 
 // The one number after a word of `at` bytes, to the line's end.
 fn last_number(line: &[u8], at: usize) -> Number
-    ensures { λ r. ⌜ Lasts (now (line .entry)) at r ⌝ }
+    ensures { λ r. ⌜ Lasts (32 ∷ []) (now (line .entry)) at r ⌝ }
 {
     let Number::Value(v, a) = number_after(line, at) else {
         return Number::Absent;
@@ -202,4 +202,17 @@ pub fn parse(line: &[u8]) -> Parsed
         return parse_commit(line);
     }
     Parsed::Refused(Refusal::Command)
+}
+
+// The number that is a whole line, without the byte that ends it.
+pub fn sole_number(line: &[u8]) -> Number
+    ensures { λ r. ⌜ Lasts [] (now (line .entry)) 0 r ⌝ }
+{
+    let Number::Value(v, end) = number_at(line, 0) else {
+        return Number::Absent;
+    };
+    if end == line.len() {
+        return Number::Value(v, end);
+    }
+    Number::Absent
 }

@@ -22,6 +22,9 @@ use Rattle.bench_command.specs.declared.Output.{Output}
 use Rattle.bench_command.specs.declared.Output.the-variants as Out
 use Rattle.bench_command.specs.Decimal.{decimal, Fits}
 use Rattle.bench_command.specs.Lines.{spaced, outputOf, entryLine}
+use Rattle.bench_command.specs.TariffLine.{tariffLine}
+use Rattle.tariff_answers.specs.declared.TariffAnswer.{TariffAnswer}
+use Rattle.tariff_answers.specs.declared.TariffAnswer.the-variants.{Yes, No}
 use Rattle.bench_printing.specs.Promises.{Prints}
 use Rattle.bench_printing.specs.Steps.{Appends}
 use Rattle.bench_command.proofs.Reading.{length-one, length-more}
@@ -48,6 +51,11 @@ output-room (Out.Retract undone) = one _ undone (omega arith)
 output-room (Out.Run station undone) = two _ station undone (omega arith)
 output-room (Out.Commit count) = one _ count (omega arith)
 output-room (Out.No number) = one _ number (omega arith)
+
+pub tariff-room : (t : TariffAnswer) → length (tariffLine t) ≤ 96
+unfolding tariffLine
+tariff-room (Yes sum) = one _ sum (omega arith)
+tariff-room No = omega arith
 
 -- ---- an entry of the log
 

@@ -1,14 +1,16 @@
-// The lines of the bench's answers, and of a log's entries.
+// The lines of the bench's answers, of a log's entries, and of the star line's tariff.
 
 ghost use mathlib.Core.Path.{_≡_};
 ghost use mathlib.Core.List.{[], _∷_, _++_};
 ghost use lib.ListN.{length};
 ghost use Rattle.bench_command.specs.Decimal.{decimal};
 ghost use Rattle.bench_command.specs.Lines.{spaced, outputOf, entryLine};
+ghost use Rattle.bench_command.specs.TariffLine.{tariffLine};
 ghost use Rattle.bench_printing.specs.Promises.{Prints};
 ghost use Rattle.bench_printing.specs.Steps.{Appends};
 use bench_command::Output;
 use line::Event;
+use tariff_answers::TariffAnswer;
 
 // The bytes that have room for every line.
 const ROOM: usize = 96;
@@ -147,4 +149,27 @@ pub fn print_entry(out: &mut [u8], at: usize, e: Event) -> usize
         return at;
     }
     fill_entry(out, at, e)
+}
+
+// The line of a tariff.
+fn fill_tariff(out: &mut [u8], at: usize, t: TariffAnswer) -> usize
+    ensures { λ r. ⌜ Appends (tariffLine t) at (now (out .entry)) r (now (out .exit)) ⌝ }
+{
+    match t {
+        TariffAnswer::Yes { sum } => print_one(out, at, b"yes", sum),
+        TariffAnswer::No => append_word(out, at, b"no\n"),
+    }
+}
+
+// The line of a tariff, into a buffer as for print.
+pub fn print_tariff(out: &mut [u8], at: usize, t: TariffAnswer) -> usize
+    ensures { λ r. ⌜ Prints (tariffLine t) at (now (out .entry)) r (now (out .exit)) ⌝ }
+{
+    if out.len() < ROOM {
+        return at;
+    }
+    if out.len() - ROOM < at {
+        return at;
+    }
+    fill_tariff(out, at, t)
 }
