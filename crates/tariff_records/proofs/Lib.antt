@@ -1,0 +1,13 @@
+pub mod Rounding
+pub mod Draws
+pub mod StarFacts
+pub mod Due
+pub mod Hands
+pub mod Heard
+pub mod Earlier
+pub mod PostsDue
+pub mod MachineTariff
+pub mod FirstCalls
+pub mod LaterCalls
+pub mod OpenedStar
+pub mod StarHeard
