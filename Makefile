@@ -36,6 +36,7 @@ outputs:
 	python3 tools/account.py | cmp - crates/account_test/stdout
 	python3 tools/small_lists.py | cmp - crates/small_lists_run/stdout
 	python3 tools/small_lists.py outputs | cmp - crates/small_lists_test/stdout
+	python3 tools/star_tariff.py
 	python3 tools/commands.py tools/lines/river.txt 7 1500 | cmp - crates/bench_long/stdin
 	for bench in two:bench two:bench_refusals repeats:bench_repeats river:bench_long; do \
 	    line=tools/lines/$${bench%:*}.txt crate=crates/$${bench#*:}; \

@@ -3,7 +3,7 @@
 
   python3 tools/star_tariff.py           holds the plans, input and output in crates star_tariff, star_tariff_test and star_tariff_run against it
   python3 tools/star_tariff.py write     writes them
-  python3 tools/star_tariff.py calls     prints the calls of star_tariff_test
+  python3 tools/star_tariff.py calls     prints the calls that star_tariff_test has to make
 
 A sum is the formula's. Where it is below 250000 it is first held against what the collector hears on the machine of tools/worked.py, and so are 2000
 drawn stars.
@@ -159,6 +159,9 @@ def main():
                 f.write(content)
         elif open(path, "rb").read() != content:
             sys.exit(name + " differs")
+    with open(os.path.join(CRATES, "star_tariff_test/src/main.rt")) as f:
+        if "".join(line for line in f if line.startswith('    ask(b"')) != calls():
+            sys.exit("star_tariff_test makes other calls")
 
 
 if __name__ == "__main__":

@@ -127,17 +127,22 @@ fn open_first(arity: u64, b: &mut [u8], bytes: usize) {
     open(1, arity, 64, &mut b[0..bytes]);
 }
 
-// For one station, the longest buffer that is too short, and the shortest that is not.
+// For one station, the longest buffer that is too short, and the shortest that is not. The prover's time for a local array grows with its length and with the
+// places that lend it: so the longest ones are lent once or a few times.
+fn bounds_on(b: &mut [u8]) {
+    open_first(8, b, 8255);
+    open_first(8, b, 8256);
+    open_first(16, b, 32831);
+    open_first(16, b, 32832);
+    open_first(32, b, 131135);
+    open_first(32, b, 131136);
+    open_first(64, b, 524351);
+    open_first(64, b, 524352);
+}
+
 fn bounds() {
     let mut b = [165u8; 524352];
-    open_first(8, &mut b, 8255);
-    open_first(8, &mut b, 8256);
-    open_first(16, &mut b, 32831);
-    open_first(16, &mut b, 32832);
-    open_first(32, &mut b, 131135);
-    open_first(32, &mut b, 131136);
-    open_first(64, &mut b, 524351);
-    open_first(64, &mut b, 524352);
+    bounds_on(&mut b);
 }
 
 // ---- each refusal, and the edges of the floor
@@ -302,48 +307,72 @@ fn lowest_from(b: &mut [u8], floor: u64) {
 
 // One time: the last of the ring's first block and the one after it, the same of the block before the last, and of the last, after which it waits in the
 // overflow table.
+fn lowest_at_edges(
+    b: &mut [u8],
+    first: u64,
+    second: u64,
+    before: u64,
+    last: u64,
+    end: u64,
+    over: u64,
+) {
+    lowest_at(b, first);
+    lowest_at(b, second);
+    lowest_at(b, before);
+    lowest_at(b, last);
+    lowest_at(b, end);
+    lowest_at(b, over);
+}
+
+// An advanced ring comes to cover it, in slot 0.
+fn lowest_from_edges(b: &mut [u8], first: u64, second: u64, last: u64, over: u64) {
+    lowest_from(b, first);
+    lowest_from(b, second);
+    lowest_from(b, last);
+    lowest_from(b, over);
+    extract(b);
+    extract(b);
+}
+
 fn words_read(arity: u64, first: u64, second: u64, before: u64, last: u64, end: u64, over: u64) {
     let mut b = [165u8; 524544];
     open(4, arity, 64, &mut b);
     lowest(&b);
     lowest_at(&mut b, 0);
-    lowest_at(&mut b, first);
-    lowest_at(&mut b, second);
-    lowest_at(&mut b, before);
-    lowest_at(&mut b, last);
-    lowest_at(&mut b, end);
-    lowest_at(&mut b, over);
-    // an advanced ring comes to cover it, in slot 0
-    lowest_from(&mut b, first);
-    lowest_from(&mut b, second);
-    lowest_from(&mut b, last);
-    lowest_from(&mut b, over);
-    extract(&mut b);
-    extract(&mut b);
+    lowest_at_edges(&mut b, first, second, before, last, end, over);
+    lowest_from_edges(&mut b, first, second, last, over);
 }
 
 // Times that are 32 bits and more after the start of the ring.
+fn far_in_the_ring_on(b: &mut [u8]) {
+    open(4, 64, 1048576, b);
+    lowest_at(b, 4294967295);
+    lowest_at(b, 4294967296);
+    lowest_at(b, 68719476735);
+    lowest_at(b, 68719476736);
+}
+
 fn far_in_the_ring() {
     let mut b = [165u8; 524544];
-    open(4, 64, 1048576, &mut b);
-    lowest_at(&mut b, 4294967295);
-    lowest_at(&mut b, 4294967296);
-    lowest_at(&mut b, 68719476735);
-    lowest_at(&mut b, 68719476736);
+    far_in_the_ring_on(&mut b);
 }
 
 // Two stations in the last of 65536 leaves.
+fn last_leaf_on(b: &mut [u8]) {
+    open(7, 64, 64, b);
+    register(b, 5, 4194303);
+    register(b, 6, 4194302);
+    unregister(b, 5);
+    lowest(b);
+    register(b, 5, 4194303);
+    extract(b);
+    extract(b);
+    lowest(b);
+}
+
 fn last_leaf() {
     let mut b = [165u8; 524736];
-    open(7, 64, 64, &mut b);
-    register(&mut b, 5, 4194303);
-    register(&mut b, 6, 4194302);
-    unregister(&mut b, 5);
-    lowest(&b);
-    register(&mut b, 5, 4194303);
-    extract(&mut b);
-    extract(&mut b);
-    lowest(&b);
+    last_leaf_on(&mut b);
 }
 
 // A time of the ring's last block, one after the ring, and one of the floor's block.
@@ -482,10 +511,14 @@ fn calls(b: &mut [u8], n: u16, span: u32, seed: u32, count: u32) {
     }
 }
 
+fn drawn_on(b: &mut [u8], n: u16, arity: u64, width: u64, span: u32, seed: u32, count: u32) {
+    open(n as u64, arity, width, b);
+    calls(b, n, span, seed, count);
+}
+
 fn drawn(n: u16, arity: u64, width: u64, span: u32, seed: u32, count: u32) {
     let mut b = [165u8; 540672];
-    open(n as u64, arity, width, &mut b);
-    calls(&mut b, n, span, seed, count);
+    drawn_on(&mut b, n, arity, width, span, seed, count);
 }
 
 fn main() {
