@@ -3,7 +3,7 @@ use mathlib.Core.Path.{_≡_, refl, sym, ap, subst, _∙_}
 use mathlib.Core.List.{List, [], _++_}
 use Prim.Native.Nat.{ℕ, _+_, _≤_, _<_, min}
 use native.Mathlib.Omega.{arith}
-use lib.ListN.{length, drop, replicate, length-replicate}
+use lib.ListN.{length, replicate, length-replicate}
 use Rattle.refusal.specs.declared.Refusal.{Refusal}
 use Rattle.refusal.specs.Numbers.{numberOf}
 use Rattle.rules.specs.Engine.{Answer, Refused, Committed}
@@ -20,7 +20,7 @@ use Rattle.bench_command.specs.declared.Output.{Output}
 use Rattle.bench_command.specs.declared.Output.the-variants as Out
 use Rattle.bench_command.specs.declared.Parsed.{Parsed}
 use Rattle.bench_command.specs.declared.Parsed.the-variants as Says
-use Rattle.bench_command.specs.Lines.{commandLine, FitsAll, outputOf, LineSaid, Asks, Refuses, parsedSaid}
+use Rattle.bench_command.specs.Lines.{outputOf, Asks, Refuses, parsedSaid}
 use Rattle.bench_parsing.specs.Promises.{Parses}
 use Rattle.bench_printing.specs.Promises.{Prints}
 use Rattle.bench_answers.specs.Shown.{callOf, entryLines, linesOf, openLines}

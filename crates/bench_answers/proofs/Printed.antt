@@ -1,17 +1,16 @@
 -- Lines that are printed one after the other into a text that has room for all.
-use mathlib.Core.Path.{_≡_, refl, sym, ap, subst, _∙_}
-use mathlib.Core.List.{List, [], _++_}
+use mathlib.Core.Path.{_≡_, sym, ap, subst, _∙_}
+use mathlib.Core.List.{List, _++_}
 use Prim.Native.Nat.{ℕ, suc, _+_, _*_, _≤_, min}
 use native.Mathlib.Omega.{arith}
 use native.Mathlib.Numerals.{add-one}
-use lib.ListN.{length, take, drop, length-append}
+use lib.ListN.{length, drop, length-append}
 use Rattle.line.specs.declared.Event.{Event}
-use Rattle.bench_command.specs.declared.Output.{Output}
 use Rattle.bench_command.specs.declared.Output.the-variants as Out
 use Rattle.bench_command.specs.Lines.{outputOf, entryLine}
 use Rattle.bench_printing.specs.Promises.{Prints}
 use Rattle.bench_printing.specs.Steps.{Appends}
-use Rattle.bench_printing.proofs.Appending.{nothing, then, read-as}
+use Rattle.bench_printing.proofs.Appending.{nothing, then}
 use Rattle.bench_printing.proofs.Room.{line-most, appended}
 use Rattle.entry.specs.Entry.{eventAt}
 use Rattle.bench_answers.specs.Shown.{entryLines}

@@ -1,15 +1,15 @@
 -- What a byte, and what a list of bytes, makes of the console.
-use mathlib.Core.Path.{_≡_, refl, sym, ap, ap₂, subst, _∙_}
-use mathlib.Core.Logic.{_⊎_, inl, inr}
+use mathlib.Core.Path.{_≡_, refl, sym, ap, subst, _∙_}
+use mathlib.Core.Logic.{inl, inr}
 use mathlib.Core.List.{List, [], _∷_, _++_, append-assoc, append-nil}
-use Prim.Native.Nat.{ℕ, zero, suc, _+_, _≤_, _<_}
+use Prim.Native.Nat.{ℕ, _+_, _≤_, _<_}
 use native.Mathlib.Omega.{arith}
 use native.Mathlib.Numerals.{add-one}
 use lib.ListN.{length, getD, set, take, length-append, length-set, length-take}
-use lib.Seq.{length-take-le, take-all, take-nil, take-append-le, take-suc-set}
+use lib.Seq.{take-all, take-nil, take-append-le, take-suc-set}
 use Rattle.bench_command.proofs.Prefixes.{next-byte}
 use Rattle.bench_answers.specs.Promises.{Replied}
-use Rattle.bench_console.specs.Input.{Consumed, unfed, inside, ends, Ended, whole, last}
+use Rattle.bench_console.specs.Input.{Consumed, unfed, inside, ends, whole, last}
 use Rattle.bench_console.specs.Steps.{Printed, Unended, Console, More, Last, ReadOn, Within, AnswersAll}
 use Rattle.bench_console.specs.declared.Read.{Read}
 use Rattle.bench_console.specs.declared.Read.the-variants.{Some, End}

@@ -2,14 +2,13 @@
 use mathlib.Core.Path.{_≡_, refl, sym, ap, _∙_}
 use mathlib.Core.List.{List, [], _∷_, map, List·Memᴰ, List·Memᴰ·head, List·Memᴰ·tail}
 use mathlib.Core.Option.{Option, none, some}
-use Prim.Native.Nat.{ℕ, zero, suc, _+_, _≤_, _<_}
+use Prim.Native.Nat.{ℕ, zero, suc, _+_, _<_}
 use native.Mathlib.Omega.{arith}
 use lib.ListN.{length, getD, getElem?, drop}
 use Rattle.line.specs.Order.{All}
 use Rattle.rules.specs.Engine.{Call, Post, Retract, RunStation, RunLowest, Commit, Record}
 use Rattle.small_lists.specs.Calls.{namedCalls, StandsFor, ListStandsFor}
-use Rattle.small_lists.specs.Listing.{listing}
-use Rattle.small_lists.specs.Complete.{Meaning, ListingClaim}
+use Rattle.small_lists.specs.Complete.{ListingClaim}
 use Rattle.small_lists.proofs.Complete.{complete}
 use Rattle.small_lists.proofs.Sole.{sole}
 

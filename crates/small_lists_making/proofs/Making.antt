@@ -1,5 +1,5 @@
 -- A call is made by its number, or none.
-use mathlib.Core.Path.{_≡_, refl}
+use mathlib.Core.Path.{refl}
 use mathlib.Core.List.{List, []}
 use Prim.Native.Nat.{ℕ, _≤_}
 use Rattle.bench_command.specs.declared.Command.{Command}

@@ -4,7 +4,7 @@ use mathlib.Core.List.{List, [], _++_}
 use Prim.Native.Nat.{ℕ, _≤_}
 use native.Mathlib.Omega.{arith}
 use lib.ListN.{length, length-append}
-use Rattle.bench_command.specs.Decimal.{decimal, Fits}
+use Rattle.bench_command.specs.Decimal.{decimal}
 use Rattle.bench_parsing.specs.declared.Number.{Number}
 use Rattle.bench_parsing.specs.declared.Number.the-variants.{Value, Absent}
 use Rattle.bench_parsing.specs.Promises.{Lasts}

@@ -3,7 +3,7 @@ use Prim.Native.Nat.{_≤_}
 use native.Mathlib.Omega.{arith}
 use borrow.Author.Needs.{needs}
 use lib.ListN.{length}
-use Rattle.bench_command.specs.declared.Command.the-variants.{Post, Retract, Run, RunStation, Commit}
+use Rattle.bench_command.specs.declared.Command.the-variants.{Post, Retract, Run, RunStation}
 use Rattle.bench_answers.proofs.Answering.{nothing-done, obeys-as, obeys-line, obeys-in-text}
 use Rattle.bench_answers.proofs.obey.Statement.{statement}
 use Rattle.bench_answers.proofs.obey.Tie as tie
