@@ -16,7 +16,7 @@ use Rattle.engine.specs.Session.{made}
 use Rattle.engine.proofs.Session.{whole}
 use Rattle.tariff.specs.Star.{StarPosts}
 use Rattle.tariff.specs.Tariff.{tariff}
-use Rattle.tariff_records.specs.StarHeard.{Claim, WholeListClaim}
+use Rattle.tariff_records.specs.StarHeard.{StarClaim, StarListClaim}
 use Rattle.tariff_records.proofs.Earlier.{star-earlier}
 use Rattle.tariff_records.proofs.MachineTariff.{machine-tariff}
 use Rattle.tariff_records.proofs.FirstCalls.{first-calls, commit-in-time}
@@ -29,7 +29,7 @@ posts-inside : (p : Plan) → InRange p → (setting : Setting) {bs : List Made}
 unfolding fed
 posts-inside p S setting {bs} {g} c = fed-inside p S g (posts p 0 bs) (retracted bs) (logs bs) (after-calls p S setting c .0)
 
-pub star-heard : Claim
+pub star-heard : StarClaim
 star-heard plan arity width capacity before xs ys bs cs st o c star h =
     let setting = chosen arity width capacity in
     let p = lineOf plan in
@@ -42,7 +42,7 @@ star-heard plan arity width capacity before xs ys bs cs st o c star h =
     let is-sum : st .heard ≡ tariff (lineOf plan) (lastCommit 0 bs) = ap (λ (v : State). v .heard) (k .2) ∙ machine-is in
     record { is-sum = is-sum; answered = star-answered o star (lastCommit 0 bs) (st .heard) in-time is-sum }
 
-pub star-heard-list : WholeListClaim
+pub star-heard-list : StarListClaim
 star-heard-list plan arity width capacity before xs ys bs cs st o c star h =
     let p = lineOf plan in
     let ms = made (Record 0) (Recorded st) ∷ cs in

@@ -22,27 +22,27 @@ pub record StarHeard (plan : List ℕ) (c : ℕ) (st : State) : Type 0 where
   pub is-sum : st .heard ≡ tariff (lineOf plan) c
   pub answered : tariffOf plan c ≡ Yes (st .heard)
 
--- the calls ms, of which the first are bs and the next is a record of station 0, come after an accepted opening of a star's plan. Where `posted` holds of
--- the line, of bs and of ms, the record is as above at the commit time then
-abbrev pub Claims : (Plan → List Made → List Made → Type 0) → Type 0
-Claims posted =
+-- the calls ms, of which the first are bs and the next is a record of station 0, come after an accepted opening of a star's plan. Where `condition` holds
+-- of the line, of bs and of ms, the record is as above at the commit time then
+abbrev pub StarClaims : (Plan → List Made → List Made → Type 0) → Type 0
+StarClaims condition =
     (plan : List ℕ) (arity width capacity : ℕ) (before xs ys : List ℕ) (bs cs : List Made) (st : State)
     → Opens plan arity width capacity before Done xs
     → Chain xs (bs ++ (made (Record 0) (Recorded st) ∷ cs)) ys
     → isStar (lineOf plan) ≡ true
-    → posted (lineOf plan) bs (bs ++ (made (Record 0) (Recorded st) ∷ cs))
+    → condition (lineOf plan) bs (bs ++ (made (Record 0) (Recorded st) ∷ cs))
     → StarHeard plan (lastCommit 0 bs) st
 
--- asked of the posts before the commit time alone, since no commit sees the others: the posts of the calls bs that stand
+-- asked of the posts before the commit time alone, since no commit sees the others: those of the calls bs that stand. Up to time 0 nothing is heard
 abbrev pub StarBefore : Plan → List Made → List Made → Type 0
 StarBefore p bs ms = 0 < lastCommit 0 bs → StarPosts p (earlier (lastCommit 0 bs) (fed p bs))
 
-abbrev pub Claim : Type 0
-Claim = Claims StarBefore
+abbrev pub StarClaim : Type 0
+StarClaim = StarClaims StarBefore
 
 -- asked of the whole list, calls after the record among them: every post that is not retracted
 abbrev pub StarList : Plan → List Made → List Made → Type 0
 StarList p bs ms = StarPosts p (fed p ms)
 
-abbrev pub WholeListClaim : Type 0
-WholeListClaim = Claims StarList
+abbrev pub StarListClaim : Type 0
+StarListClaim = StarClaims StarList
