@@ -11,7 +11,7 @@ use Rattle.line.specs.Order.{All}
 use Rattle.line.specs.Station.{Plan}
 use Rattle.line.proofs.Order.{Which, this, other, which}
 use Rattle.rules.proofs.Calls.Commit.{Early, early, late, isEarly}
-use Rattle.tariff.specs.Star.{countAt, StarPosts, earlier}
+use Rattle.tariff_records.specs.StarPosts.{countAt, StarPosts, earlier}
 
 module _ (c : ℕ) where
   pub early-one : (x : Event) (xs : List Event) → x .time < c → earlier c (x ∷ xs) ≡ x ∷ earlier c xs

@@ -22,7 +22,7 @@ use Rattle.rules.specs.Demand.{Made, Calls, end, next, isRefused, postIn, posts
 use Rattle.rules.proofs.Calls.Invariant.{Inv, opened-inv, Known, held-known, held-late, held-post}
 use Rattle.rules.proofs.Calls.Posts.{Numbered, without-append, without-snoc, without-numbered}
 use Rattle.rules.proofs.Calls.Step.{post-passed, commit-passed, call-next}
-use Rattle.tariff.specs.Star.{earlier}
+use Rattle.tariff_records.specs.StarPosts.{earlier}
 use Rattle.tariff_records.proofs.Earlier.{late-one, early-next, late-last}
 
 -- ---- a number left out whose event is late

@@ -12,8 +12,9 @@ use Rattle.line.specs.Station.{Plan, InRange}
 use Rattle.line.proofs.All.{all-map, all-both}
 use Rattle.rules.specs.Machine.{Machine, start, Runs}
 use Rattle.rules.proofs.Calls.Commit.{Early, early, late, isEarly}
-use Rattle.tariff.specs.Star.{isStar, StarPosts, earlier}
+use Rattle.tariff.specs.Star.{isStar}
 use Rattle.tariff.specs.Tariff.{tariff}
+use Rattle.tariff_records.specs.StarPosts.{StarPosts, earlier}
 use Rattle.tariff_records.proofs.StarFacts.{star-facts}
 use Rattle.tariff_records.proofs.Hands.{Good, reading-good}
 use Rattle.tariff_records.proofs.Heard.{machine-heard}

@@ -15,9 +15,9 @@ use Rattle.line.specs.Station.{Plan}
 use Rattle.line.proofs.All.{all-map}
 use Rattle.line.proofs.Order.{Which, this, other, which}
 use Rattle.rules.proofs.Calls.Commit.{Early, early, late, isEarly}
-use Rattle.tariff.specs.Star.{countAt, StarPosts, earlier}
 use Rattle.tariff.specs.Tariff.{roundedUp, share, tariff}
 use Rattle.tariff.proofs.Summing.{none-yet, rounded}
+use Rattle.tariff_records.specs.StarPosts.{countAt, StarPosts, earlier}
 use Rattle.tariff_records.proofs.Rounding.{rounded-zero}
 use Rattle.tariff_records.proofs.StarFacts.{Star}
 use Rattle.tariff_records.proofs.Due.{brings, due, dueOf, dueAll, first-read-due, read-due, late-due, all-late-due}

@@ -14,8 +14,8 @@ use Rattle.rules.proofs.Calls.Invariant.{fed-inside}
 use Rattle.plan_format.specs.Line.{lineOf}
 use Rattle.engine.specs.Session.{made}
 use Rattle.engine.proofs.Session.{whole}
-use Rattle.tariff.specs.Star.{StarPosts}
 use Rattle.tariff.specs.Tariff.{tariff}
+use Rattle.tariff_records.specs.StarPosts.{StarPosts}
 use Rattle.tariff_records.specs.StarHeard.{StarClaim, StarListClaim}
 use Rattle.tariff_records.proofs.Earlier.{star-earlier}
 use Rattle.tariff_records.proofs.MachineTariff.{machine-tariff}

@@ -1,1 +1,2 @@
+pub mod StarPosts
 pub mod StarHeard

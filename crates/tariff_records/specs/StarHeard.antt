@@ -13,8 +13,9 @@ use Rattle.engine_answers.specs.declared.OpenAnswer.the-variants.{Done}
 use Rattle.engine_promises.specs.Promises.{Opens}
 use Rattle.engine.specs.Session.{made, Chain}
 use Rattle.tariff_answers.specs.declared.TariffAnswer.the-variants.{Yes}
-use Rattle.tariff.specs.Star.{isStar, StarPosts, earlier}
+use Rattle.tariff.specs.Star.{isStar}
 use Rattle.tariff.specs.Tariff.{tariff, tariffOf}
+use Rattle.tariff_records.specs.StarPosts.{StarPosts, earlier}
 
 -- "For an accepted commit at c, the collector's heard is the sum": st is the record of station 0 at the commit time c. The tariff's call answers yes with
 -- the same number
