@@ -1,6 +1,6 @@
 -- Counting the digits of a text, and adding them up, step by step.
 use mathlib.Core.Path.{_≡_, refl, sym, ap, _∙_}
-use mathlib.Core.Bool.{Bool, true, false, cond, _&&_}
+use mathlib.Core.Bool.{Bool, true, false, cond}
 use mathlib.Core.List.{List, [], _∷_}
 use Prim.Native.Nat.{ℕ, suc, _+_, _-_, _*_, _<_, _≤_}
 use native.Mathlib.Omega.{arith}
@@ -9,15 +9,12 @@ use lib.Dec.{leb, ltb}
 use lib.ListN.{length, getD, drop, drop-of-length-le}
 use lib.Seq.{drop-cons}
 use borrow.Author.Tests.{le-leb, leb-true, ltb-true, ltb-false}
+use Rattle.line.proofs.Fits.{and-true}
 use Rattle.bench_command.specs.Decimal.{isDigit, Stops}
 use Rattle.bench_command.specs.Numeral.{digitCount, total}
 
 pub is-digit : (b : ℕ) → 48 ≤ b → b ≤ 57 → isDigit b ≡ true
 is-digit b l m = rw (le-leb 48 b l, le-leb b 57 m)
-
-and-true : (a b : Bool) → (a && b) ≡ true → (a ≡ true) × (b ≡ true)
-and-true true b e = (refl, e)
-and-true false b e = ((cc), (cc))
 
 pub digit-is : (b : ℕ) → isDigit b ≡ true → (48 ≤ b) × (b ≤ 57)
 digit-is b e = let a = and-true (leb 48 b) (leb b 57) e in (leb-true 48 b (a .0), leb-true b 57 (a .1))

@@ -6,6 +6,8 @@ use Prim.Native.Nat.{ℕ, _+_, _≤_, _<_}
 use native.Mathlib.Omega.{arith}
 use lib.Dec.{leb}
 use borrow.Author.Tests.{leb-false}
+use Rattle.generator.specs.Schrage.{IsDraw}
+use Rattle.generator.proofs.Schrage.{schrage}
 use Rattle.refusal.specs.Tests.{horizon}
 use Rattle.line.specs.declared.Config.{Config}
 use Rattle.line.specs.declared.Event.{Event}
@@ -19,7 +21,6 @@ use Rattle.line.proofs.Either.{either}
 use Rattle.line.proofs.Order.{Which, this, other, which}
 use Rattle.line.proofs.Outcomes.{first-reads, other-reads, first-hears}
 use Rattle.line.proofs.Sends.{sending, made}
-use Rattle.tariff_records.proofs.Draws.{Drawn, drawn-next}
 use Rattle.tariff_records.proofs.StarFacts.{Star}
 use Rattle.tariff_records.proofs.Due.{brings, due, dueAll, due-last, first-read-due, read-due, frame-due, early-frame-due, late-due, brings-step}
 
@@ -41,7 +42,7 @@ reading-good p c x h r = record { inside = h; fine = λ l. subst (λ m. Fine m (
 pub record Hands (p : Plan) (c t s : ℕ) (m : Matter) (b : State) (o : Outcome) : Type 0 where
   pub here : s ≡ 0 → o .after .heard + dueAll p c (o .sends) ≡ b .heard + due p c t s m
   pub there : s ≢ 0 → dueAll p c (o .sends) ≡ due p c t s m
-  pub drawn : s ≡ 0 → Drawn (o .after .draw)
+  pub drawn : s ≡ 0 → IsDraw (o .after .draw)
   pub sent : All (Good p c) (o .sends)
 
 module _ (p : Plan) (T : Star p) (c : ℕ) (ends : c ≤ horizon + 1) where
@@ -63,17 +64,17 @@ module _ (p : Plan) (T : Star p) (c : ℕ) (ends : c ≤ horizon + 1) where
 
   -- ---- station 0
 
-  first-read-hands : (t : ℕ) (b : State) → Drawn (b .draw) → Hands p c t 0 Read b (runMatter (p .config 0) 0 t Read b)
+  first-read-hands : (t : ℕ) (b : State) → IsDraw (b .draw) → Hands p c t 0 Read b (runMatter (p .config 0) 0 t Read b)
   unfolding silent dueAll
   first-read-hands t b d =
       rw (first-reads (p .config 0) t b)
       (record { here = λ _. omega (arith, first-read-due p c t); there = λ n. absurd (n refl); drawn = λ _. d; sent = tt })
 
-  first-frame-hands : (t origin repeats : ℕ) (b : State) → t < c → Drawn (b .draw)
+  first-frame-hands : (t origin repeats : ℕ) (b : State) → t < c → IsDraw (b .draw)
       → Hands p c t 0 (Frame origin repeats) b (runMatter (p .config 0) 0 t (Frame origin repeats) b)
   unfolding silent dueAll hear drawnState
   first-frame-hands t origin repeats b l d =
-      let k = drawn-next (b .draw) d in
+      let k = schrage (b .draw) d .again in
       rw (first-hears (p .config 0) t origin repeats b (omega (arith, T .each 0 (T .some) .quiet, k .0)))
       (record { here = λ _. omega (arith, early-frame-due p c t 0 origin repeats l); there = λ n. absurd (n refl); drawn = λ _. k; sent = tt })
 
@@ -113,7 +114,7 @@ module _ (p : Plan) (T : Star p) (c : ℕ) (ends : c ≤ horizon + 1) where
 
   -- ---- any event
 
-  matter-hands : (t s : ℕ) (m : Matter) (b : State) → s < p .count → Fine m s → t < c → (s ≡ 0 → Drawn (b .draw))
+  matter-hands : (t s : ℕ) (m : Matter) (b : State) → s < p .count → Fine m s → t < c → (s ≡ 0 → IsDraw (b .draw))
       → Hands p c t s m b (runMatter (p .config s) s t m b)
   matter-hands t s Read b h f l d = go (which s 0)
     where
@@ -125,7 +126,7 @@ module _ (p : Plan) (T : Star p) (c : ℕ) (ends : c ≤ horizon + 1) where
       (first-frame-hands t origin repeats b l (d f))
   matter-hands t s (Level mm) b h f l d = absurd f
 
-  pub event-hands : (x : Event) (b : State) → Good p c x → x .time < c → (x .target ≡ 0 → Drawn (b .draw))
+  pub event-hands : (x : Event) (b : State) → Good p c x → x .time < c → (x .target ≡ 0 → IsDraw (b .draw))
       → Hands p c (x .time) (x .target) (x .matter) b (runEvent p b x)
   unfolding runEvent runAt
   event-hands x b g l d = matter-hands (x .time) (x .target) (x .matter) b (g .inside) (g .fine l) l d

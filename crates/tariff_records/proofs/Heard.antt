@@ -3,6 +3,7 @@ use mathlib.Core.Path.{_≡_, sym, ap, _∙_}
 use mathlib.Core.List.{List, _++_}
 use Prim.Native.Nat.{ℕ, _+_, _≤_}
 use native.Mathlib.Omega.{arith}
+use Rattle.generator.specs.Schrage.{IsDraw}
 use Rattle.refusal.specs.Tests.{horizon}
 use Rattle.line.specs.declared.Event.{Event}
 use Rattle.line.specs.Order.{All}
@@ -10,25 +11,21 @@ use Rattle.line.specs.Station.{Plan, States, update, initial, Outcome, runEvent
 use Rattle.line.proofs.All.{all-map}
 use Rattle.line.proofs.Members.{in-all, all-append}
 use Rattle.line.proofs.Order.{Which, this, other, which}
-use Rattle.rules.specs.Machine.{Machine, start, step, Takes, here, there, Runs, halt, more}
+use Rattle.rules.specs.Machine.{Machine, start, step, Runs, halt, more}
+use Rattle.rules.proofs.Machine.Plain.{takes-all}
 use Rattle.rules.proofs.Update.{update-at, update-other}
-use Rattle.tariff_records.proofs.Draws.{Drawn}
 use Rattle.tariff_records.proofs.StarFacts.{Star}
 use Rattle.tariff_records.proofs.Due.{dueOf, dueAll, due-join, due-takes, all-late-due}
 use Rattle.tariff_records.proofs.Hands.{Good, Hands, event-hands}
-
-takes-all : (P : Event → Type 0) {x : Event} {ws vs : List Event} → Takes x ws vs → All P ws → P x × All P vs
-takes-all P here a = a
-takes-all P (there t) a = let r = takes-all P t (a .1) in (r .0, (a .0, r .1))
 
 module _ (p : Plan) (T : Star p) (c : ℕ) (ends : c ≤ horizon + 1) where
   -- the event x runs, and vs wait beside it: heard and what is due are together as before
   record Stepped (x : Event) (vs : List Event) (st : States) (o : Outcome) : Type 0 where
     kept : update st (x .target) (o .after) 0 .heard + dueAll p c (vs ++ o .sends) ≡ st 0 .heard + (dueOf p c x + dueAll p c vs)
-    drawn : Drawn (update st (x .target) (o .after) 0 .draw)
+    drawn : IsDraw (update st (x .target) (o .after) 0 .draw)
 
   stepped : (x : Event) (vs : List Event) (st : States) (o : Outcome) → Hands p c (x .time) (x .target) (x .matter) (st (x .target)) o
-      → Drawn (st 0 .draw) → Stepped x vs st o
+      → IsDraw (st 0 .draw) → Stepped x vs st o
   stepped x vs st o h d = go (which 0 (x .target))
     where
       go : Which 0 (x .target) → Stepped x vs st o
@@ -40,7 +37,7 @@ module _ (p : Plan) (T : Star p) (c : ℕ) (ends : c ≤ horizon + 1) where
           let u : update st (x .target) (o .after) 0 ≡ st 0 = update-other st (o .after) n in
           record { kept = rw u (omega (arith, h .there (λ k. n (sym k)), due-join p c vs (o .sends))); drawn = rw u d }
 
-  runs-heard : {m k : Machine} → Runs p c m k → All (Good p c) (m .waiting) → Drawn (m .states 0 .draw)
+  runs-heard : {m k : Machine} → Runs p c m k → All (Good p c) (m .waiting) → IsDraw (m .states 0 .draw)
       → k .states 0 .heard ≡ m .states 0 .heard + dueAll p c (m .waiting)
   unfolding step
   runs-heard {m = m} (halt i) g d =

@@ -1,5 +1,4 @@
 pub mod Rounding
-pub mod Draws
 pub mod StarFacts
 pub mod Due
 pub mod Hands

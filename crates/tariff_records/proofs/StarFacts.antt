@@ -1,13 +1,13 @@
 -- What the star's test says of a plan in range, as facts of each station.
-use mathlib.Core.Path.{_≡_, refl, sym}
-use mathlib.Core.Bool.{Bool, true, false, _&&_, true≢false}
+use mathlib.Core.Path.{_≡_, sym}
+use mathlib.Core.Bool.{true}
 use Prim.Native.Nat.{ℕ, zero, suc, _<_}
 use native.Mathlib.Omega.{arith}
 use lib.Dec.{eqb}
 use borrow.Author.Tests.{eqb-true}
 use Rattle.line.specs.declared.Config.{Config}
 use Rattle.line.specs.Station.{Plan, InRange}
-use Rattle.line.proofs.Fits.{Fits, fits}
+use Rattle.line.proofs.Fits.{Fits, and-true, fits}
 use Rattle.line.proofs.Order.{Which, this, other, which}
 use Rattle.tariff.specs.Star.{starAt, starBelow, isStar}
 
@@ -20,10 +20,6 @@ pub record StarAt (s : ℕ) (g : Config) : Type 0 where
 pub record Star (p : Plan) : Type 0 where
   pub each : (s : ℕ) → s < p .count → StarAt s (p .config s)
   pub some : 0 < p .count
-
-and-true : (a b : Bool) → (a && b) ≡ true → (a ≡ true) × (b ≡ true)
-and-true true b e = (refl, e)
-and-true false b e = absurd (true≢false (sym e))
 
 star-below : (n : ℕ) (f : ℕ → Config) → starBelow n f ≡ true → (s : ℕ) → s < n → starAt (f s) ≡ true
 unfolding starBelow

@@ -12,6 +12,7 @@ use Rattle.line.specs.declared.State.{State}
 use Rattle.line.specs.Event.{posted}
 use Rattle.line.specs.Station.{Plan, InRange, States, initial}
 use Rattle.line.specs.Order.{Lt, Ge, Differ, fst, snd, All}
+use Rattle.line.proofs.Fits.{and-true}
 use Rattle.line.proofs.Order.{clash, differ-number, differ-source, Which, this, other, which}
 use Rattle.line.proofs.All.{all-map}
 use Rattle.line.proofs.Sends.{Sent, event-good}
@@ -56,10 +57,6 @@ opened-inv p setting = record {
 }
 
 -- ---- the held post with a number, and the least unrun event of a station
-
-and-true : (a b : Bool) → (a && b) ≡ true → (a ≡ true) × (b ≡ true)
-and-true true b e = (refl, e)
-and-true false b e = absurd (false≢true e)
 
 eq-of : (m n : ℕ) → eqb m n ≡ true → m ≡ n
 eq-of m n e = go (which m n)
