@@ -10,7 +10,7 @@ use Rattle.console.proofs.read_line.Statement.{statement}
 use Rattle.console.proofs.read_line.Tie as tie
 
 abbrev Inv-loop : tie.InvT-loop
-Inv-loop line₀ len₀ line len = ReadsLine len line × (length line ≡ length line₀)
+Inv-loop line₀ len₀ line len = ReadsLine line₀ len line × (length line ≡ length line₀)
 
 abbrev μ-loop : tie.MeasureT-loop
 μ-loop line₀ len₀ line len = length line - len
