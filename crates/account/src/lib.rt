@@ -2,6 +2,8 @@
 //
 // A call first judges, by reading alone, and then changes: so a refusal leaves the buffer as it was. Each takes any bytes.
 
+#![tactic(auto)]
+
 ghost use Rattle.std.specs.Prelude.{◌≡◌, ◌≤◌, length, replicate};
 ghost use Rattle.refusal.specs.Tests.{account_bytes, account_space_out};
 ghost use Rattle.account.specs.Promises.{OpensAccount, ReadsPart, ReadsCharge};

@@ -1,5 +1,7 @@
 // A part of a committed log: whether an account takes it, and what its entries cost.
 
+#![tactic(auto)]
+
 ghost use Rattle.std.specs.Prelude.{◌≡◌, ◌+◌, ◌≤◌, length};
 ghost use Rattle.account_parts.specs.Part.{entry_at, source_out, entry_out, part_out};
 ghost use Rattle.account_parts.specs.Cost.{cost_of};

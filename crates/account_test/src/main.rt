@@ -1,5 +1,8 @@
 // Runs calls on accounts and writes a line for each: the call with its numbers, then its answer. An entry that is laid out in a part has a line as the bench
 // writes it, after its place. tools/account.py writes the same lines from a reading of the documents that shares nothing with the crates.
+
+#![tactic(auto)]
+
 use account::{AccountAnswer, ChargeAnswer};
 use libc::STDOUT_FILENO;
 use refusal::Refusal;

@@ -1,5 +1,7 @@
 // The bench's answers: a plan is opened, and a command line is answered. What is printed is put into a lent text.
 
+#![tactic(auto)]
+
 ghost use Rattle.std.specs.Prelude.{◌≡◌, ◌++◌, ◌≤◌, min, length};
 ghost use Rattle.refusal.specs.Numbers.{number_of};
 ghost use Rattle.engine_promises.specs.Answers.{post_said, retract_said, run_said, lowest_said};

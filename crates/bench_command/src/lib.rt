@@ -1,8 +1,10 @@
 // The commands of the bench, and what their answers print.
 
+#![tactic(auto)]
+
 use refusal::Refusal;
 
-#[derive(Drop)]
+#[derive(Clone, Copy)]
 pub enum Command {
     Post {
         station: u64,
@@ -23,14 +25,14 @@ pub enum Command {
 }
 
 // A command, or refusal 8.
-#[derive(Drop)]
+#[derive(Clone, Copy)]
 pub enum Parsed {
     Is(Command),
     Refused(Refusal),
 }
 
 // What is printed: the values of each answer, or the number of a refusal.
-#[derive(Drop)]
+#[derive(Clone, Copy)]
 pub enum Output {
     Post { number: u64, undone: u64 },
     Retract { undone: u64 },

@@ -1,5 +1,7 @@
 // The bench: a plan and command lines in, answers out. What is answered is crate bench_answers; here are input, output and the loop.
 
+#![tactic(auto)]
+
 ghost use Rattle.std.specs.Prelude.{List, [], ◌∷◌, ◌++◌, ℕ, ◌≤◌, length, take as List·take};
 ghost use Rattle.bench_console.specs.Steps.{Printed, Console, ReadOn, Within, AnswersAll};
 
@@ -52,7 +54,7 @@ fn take_all(b: &mut [u8], line: &mut [u8], len: usize, input: &[u8]) -> usize
 }
 
 // The length of the line that has not ended, or the input's end.
-#[derive(Drop)]
+#[derive(Clone, Copy)]
 enum Read {
     Some(usize),
     End,

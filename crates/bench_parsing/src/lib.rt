@@ -1,5 +1,7 @@
 // A command line of the bench to its command, and a line that is one number.
 
+#![tactic(auto)]
+
 ghost use Rattle.std.specs.Prelude.{◌≡◌, [], ◌∷◌, ◌++◌, drop};
 ghost use Rattle.bench_command.specs.Numeral.{digit_count, total};
 ghost use Rattle.bench_command.specs.Lines.{post_word, retract_word, run_word, commit_word};
@@ -10,7 +12,7 @@ use bench_command::{Command, Parsed};
 use refusal::Refusal;
 
 // A number and the place after it, or none.
-#[derive(Drop)]
+#[derive(Clone, Copy)]
 pub enum Number {
     Value(u64, usize),
     Absent,
@@ -51,7 +53,7 @@ fn digit_count(line: &[u8], at: usize) -> usize
     i - at
 }
 
-#[derive(Drop)]
+#[derive(Clone, Copy)]
 enum Total {
     Sum(u64),
     Over,

@@ -1,5 +1,7 @@
 // The bench, on plans of every kind: those that are refused print their number, the last two nothing.
 
+#![tactic(auto)]
+
 fn main() {
     bench_console::serve(b"missing.bin");
     bench_console::serve(b"empty.bin");

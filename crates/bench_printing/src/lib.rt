@@ -1,5 +1,7 @@
 // The lines of the bench's answers, of a log's entries, and of the star line's tariff.
 
+#![tactic(auto)]
+
 ghost use Rattle.std.specs.Prelude.{◌≡◌, [], ◌∷◌, ◌++◌, length};
 ghost use Rattle.bench_command.specs.Decimal.{decimal};
 ghost use Rattle.bench_command.specs.Lines.{spaced, output_of, entry_line};

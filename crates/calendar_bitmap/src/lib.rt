@@ -1,5 +1,7 @@
 // A bitmap word of `arity` children, 8, 16, 32 or 64, in the low bits of 64: child 0 is the most significant of its bits.
 
+#![tactic(auto)]
+
 ghost use Rattle.std.specs.Prelude.{◌≡◌, ◌⊎◌, ◌-◌, ◌%◌, ◌^◌, ◌≤◌, ◌<◌};
 ghost use Rattle.calendar_bitmap.specs.Child.{Arity};
 ghost use Rattle.calendar_bitmap.specs.Promises.{FirstChild, FirstFrom, WithChild};

@@ -2,6 +2,8 @@
 //
 // Each call goes by the row to one function that has it as a literal: there the compiler knows the arity, and one test of the length stands for all.
 
+#![tactic(auto)]
+
 ghost use Rattle.std.specs.Prelude.{◌≡◌, ◌⊎◌, ◌+◌, ◌*◌, ◌≤◌, ◌<◌, length};
 ghost use Rattle.calendar_shapes.specs.Rule.{arity_in};
 ghost use Rattle.calendar_cells.specs.Table.{bytes_for};

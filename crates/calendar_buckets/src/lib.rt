@@ -1,5 +1,7 @@
 // The calendar's table in a lent buffer: a station is put under a due number and a leaf, and taken out, in constant time.
 
+#![tactic(auto)]
+
 ghost use Rattle.std.specs.Prelude.{◌≡◌, ◌⊎◌, ℕ, suc, ◌+◌, ◌*◌, ◌%◌, ◌≤◌, ◌<◌, length};
 ghost use Rattle.refusal.specs.Tests.{horizon};
 ghost use Rattle.calendar_shapes.specs.Rule.{arity_in};

@@ -12,6 +12,8 @@
 //
 // A cell's number is one of 32 bits, so that no sum can wrap. A cell that does not lie whole in the buffer is read as 0, and is not stored.
 
+#![tactic(auto)]
+
 ghost use Rattle.std.specs.Prelude.{◌≡◌, ◌+◌, ◌*◌, ◌≤◌};
 ghost use Rattle.calendar_shapes.specs.Rule.{arity_in};
 ghost use Rattle.calendar_cells.specs.Cells.{word_at, back_at, link_at, put_word, put_back, put_link};

@@ -1,5 +1,7 @@
 // The floor rises, and the ring of blocks with it.
 
+#![tactic(auto)]
+
 ghost use Rattle.std.specs.Prelude.{◌≡◌, ℕ, ◌≤◌, ◌<◌};
 ghost use Rattle.calendar_cells.specs.Table.{due_of, Waits};
 ghost use Rattle.calendar_header.specs.Rules.{any_before, advance_checks, advanced};

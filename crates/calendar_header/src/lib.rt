@@ -4,6 +4,8 @@
 // ring, slot of the floor's block, number of stations, row of the shape. The ring's numbers follow from arity, width and floor and are kept so that
 // register needs only one division.
 
+#![tactic(auto)]
+
 ghost use Rattle.std.specs.Prelude.{◌≡◌, ℕ, ◌*◌, ◌≤◌, ◌<◌};
 ghost use Rattle.calendar_cells.specs.Table.{arity_of};
 ghost use Rattle.calendar_ring.specs.Ring.{leaf_for};

@@ -1,5 +1,7 @@
 // A bucket's list of stations, in the order of (due, station).
 
+#![tactic(auto)]
+
 ghost use Rattle.std.specs.Prelude.{◌≡◌, ◌⊎◌, ℕ, ◌+◌, ◌*◌, ◌≤◌, ◌<◌};
 ghost use Rattle.calendar_cells.specs.Lists.{rank_of};
 ghost use Rattle.calendar_cells.specs.Table.{due_of, Table};

@@ -1,5 +1,7 @@
 // Which station has the lowest timestamp (a Lowest-Timestamp-First scheduler).
 
+#![tactic(auto)]
+
 ghost use Rattle.std.specs.Prelude.{◌≤◌, ◌<◌};
 ghost use Rattle.calendar_cells.specs.Table.{arity_of};
 ghost use Rattle.calendar_header.specs.Bytes.{Sound};

@@ -1,5 +1,7 @@
 // Stations enter the calendar, move in it and leave it.
 
+#![tactic(auto)]
+
 ghost use Rattle.std.specs.Prelude.{suc, ◌≤◌, ◌<◌};
 ghost use Rattle.calendar_cells.specs.Table.{arity_of};
 ghost use Rattle.calendar_header.specs.Rules.{register_checks, registered_at, unregister_checks, unregistered};

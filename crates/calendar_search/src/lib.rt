@@ -2,6 +2,8 @@
 //
 // Each search goes by the row to one function that has it as a literal: there the compiler knows the arity.
 
+#![tactic(auto)]
+
 ghost use Rattle.std.specs.Prelude.{◌≡◌, ℕ, ◌%◌, ◌≤◌, ◌<◌, length};
 ghost use Rattle.calendar_shapes.specs.Rule.{arity_in};
 ghost use Rattle.calendar_cells.specs.Table.{bytes_for, Table};
@@ -15,7 +17,7 @@ use calendar_shapes::{above, arity, below, child_of};
 // ---- the leaves
 
 // What a search of the leaves found, and how many bitmap words it read.
-#[derive(Drop)]
+#[derive(Clone, Copy)]
 pub struct Searched {
     pub at: u32,
     pub words: u64,

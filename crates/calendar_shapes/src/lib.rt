@@ -1,10 +1,12 @@
 // The four shapes of a calendar (document 02, change 9), and the numbers of a row of theirs.
 
+#![tactic(auto)]
+
 ghost use Rattle.std.specs.Prelude.{◌≡◌, ◌+◌, ◌*◌, ◌/◌, ◌%◌, ◌≤◌, ◌<◌};
 ghost use Rattle.calendar_shapes.specs.Rule.{arity_in, Right, EntryIs};
 
 // Of a block: the arity, the leaves and the bitmap words.
-#[derive(Drop)]
+#[derive(Clone, Copy)]
 pub struct Shape {
     pub arity: u64,
     pub leaves: u64,
@@ -12,7 +14,7 @@ pub struct Shape {
 }
 
 // A shape and its row in the table.
-#[derive(Drop)]
+#[derive(Clone, Copy)]
 pub enum Entry {
     At { row: u64, shape: Shape },
     Missing,

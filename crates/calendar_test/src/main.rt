@@ -1,5 +1,8 @@
 // Runs calls on calendars of the four shapes and writes a line for each: the call with its numbers, then its answer. tools/calendar.py writes the same lines from a reading of
 // the documents that shares nothing with the crates.
+
+#![tactic(auto)]
+
 ghost use Rattle.std.specs.Prelude.{◌≡◌, ◌-◌, ◌≤◌, length, take, drop};
 ghost use Rattle.calendar_header.specs.Rules.{register_checks, registered_at};
 ghost use Rattle.calendar_header.specs.Promises.{Obeys};

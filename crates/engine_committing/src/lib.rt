@@ -3,6 +3,8 @@
 // A call first judges, by reading alone, and then changes: so a refusal leaves the buffer as it was. Each takes any bytes; a buffer that is too short for the
 // numbers of its own header, which no opening leaves so, is refused with 7.
 
+#![tactic(auto)]
+
 ghost use Rattle.std.specs.Prelude.{◌≤◌};
 ghost use Rattle.rules.specs.Engine.Call.{Commit, Record};
 ghost use Rattle.engine_promises.specs.Answers.{commit_said, record_said};
@@ -72,7 +74,7 @@ fn write_first(b: &mut [u8], n: u16, c: u16, count: u16, out: &mut [u8])
 }
 
 // What judging a commit finds: how many events it writes, with the line's numbers of stations and slots, or the refusal.
-#[derive(Drop)]
+#[derive(Clone, Copy)]
 enum CommitJudged {
     Accepts { n: u16, c: u16, count: u16 },
     Refused(Refusal),

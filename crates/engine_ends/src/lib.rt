@@ -2,6 +2,8 @@
 //
 // Each function takes any bytes and any numbers, and answers a node; 0, which is a sentinel, where there is none.
 
+#![tactic(auto)]
+
 ghost use Rattle.std.specs.Prelude.{◌≡◌};
 ghost use Rattle.engine_ends.specs.Ends.{first_unrun, first_run, last_run, first_free, first_logged};
 

@@ -3,6 +3,8 @@
 //
 // The calendar stands after the index, to the end of the buffer. Each function takes any bytes and any numbers; n stations and c slots are the header's.
 
+#![tactic(auto)]
+
 ghost use Rattle.std.specs.Prelude.{◌≡◌, ◌+◌, length};
 ghost use Rattle.words.specs.Le.{load_at};
 ghost use Rattle.engine_rows.specs.Layout.{slot_row};

@@ -2,6 +2,8 @@
 //
 // Each function takes any bytes and any numbers, and does nothing where n is over 256 or c over 4096 or the index does not lie whole in the buffer.
 
+#![tactic(auto)]
+
 ghost use Rattle.std.specs.Prelude.{◌≡◌, ◌≤◌};
 ghost use Rattle.rings.specs.Table.{prev_of, Frame};
 ghost use Rattle.rings.specs.Walk.{steps};

@@ -3,6 +3,8 @@
 // Each function takes any bytes and any numbers, and does nothing where n is over 256 or c over 4096; unmark, drop and release do nothing either where the
 // index does not lie whole in the buffer.
 
+#![tactic(auto)]
+
 ghost use Rattle.std.specs.Prelude.{◌≡◌, ◌≤◌, ◌<◌};
 ghost use Rattle.rings.specs.Table.{Frame};
 ghost use Rattle.engine_rows.specs.Layout.{slot_row, free_status, unrun_status};

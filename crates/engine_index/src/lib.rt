@@ -8,6 +8,8 @@
 //
 // Each function takes any bytes and any numbers.
 
+#![tactic(auto)]
+
 ghost use Rattle.std.specs.Prelude.{◌≡◌, ◌+◌, ◌*◌, ◌%◌, length};
 ghost use Rattle.rings.specs.Table.{next_of};
 ghost use Rattle.engine_index.specs.Layout.{links_at, run_ring, free_ring, node_of, nodes_of, in_range, slot_of, slot_found, next_logged};

@@ -3,6 +3,8 @@
 // Run lowest first judges, by reading alone, and then changes: so a refusal leaves the buffer as it was. Both take any bytes; a buffer that is too short for the
 // numbers of its own header, which no opening leaves so, is refused with 7.
 
+#![tactic(auto)]
+
 ghost use Rattle.std.specs.Prelude.{◌≡◌};
 ghost use Rattle.rules.specs.Engine.Call.{RunLowest};
 ghost use Rattle.engine_promises.specs.Answers.{lowest_said};
@@ -15,7 +17,7 @@ use refusal::Refusal;
 
 // What judging a run lowest finds: the station that the calendar names and the bitmap words that it read, with the line's numbers of stations and slots,
 // or the refusal.
-#[derive(Drop)]
+#[derive(Clone, Copy)]
 enum LowestJudged {
     Accepts {
         n: u16,

@@ -3,6 +3,8 @@
 // The calendar is told the time of a station's first unrun event when that may have changed. Each function takes any bytes and any numbers; n stations and
 // c slots are the header's.
 
+#![tactic(auto)]
+
 ghost use Rattle.std.specs.Prelude.{◌≡◌, true, false, ◌+◌, ◌≤◌, ◌<◌, length};
 ghost use Rattle.rings.specs.Table.{Frame};
 ghost use Rattle.engine_moves.specs.RunCount.{runs_below};

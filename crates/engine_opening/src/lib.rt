@@ -3,6 +3,8 @@
 // A call first judges, by reading alone, and then changes: so a refusal leaves the buffer as it was. Each takes any bytes; a buffer that is too short for the
 // numbers of its own header, which no opening leaves so, is refused with 7.
 
+#![tactic(auto)]
+
 ghost use Rattle.std.specs.Prelude.{◌≡◌, ◌≤◌};
 ghost use Rattle.refusal.specs.Cases.{first_of};
 ghost use Rattle.engine_answers.specs.declared.OpenAnswer.TheVariants.{Done, Refused as Unopened};

@@ -3,6 +3,8 @@
 // A call first judges, by reading alone, and then changes: so a refusal leaves the buffer as it was. Each takes any bytes; a buffer that is too short for the
 // numbers of its own header, which no opening leaves so, is refused with 7.
 
+#![tactic(auto)]
+
 ghost use Rattle.std.specs.Prelude.{◌≡◌, ◌≤◌};
 ghost use Rattle.rules.specs.Engine.Call.{Post, Retract};
 ghost use Rattle.engine_promises.specs.Answers.{post_said, retract_said};
@@ -24,7 +26,7 @@ fn full(b: &[u8], n: u16, c: u16) -> bool
 }
 
 // What judging a post finds: its event, with the line's numbers of stations and slots, or the refusal.
-#[derive(Drop)]
+#[derive(Clone, Copy)]
 enum PostJudged {
     Accepts { n: u16, c: u16, event: Event },
     Refused(Refusal),
@@ -123,7 +125,7 @@ fn find_post(b: &[u8], n: u16, c: u16, number: u64) -> u16
 }
 
 // What judging a retract finds: the node of the post, with the line's numbers of stations and slots, or the refusal.
-#[derive(Drop)]
+#[derive(Clone, Copy)]
 enum RetractJudged {
     Accepts { n: u16, c: u16, node: u16 },
     Refused(Refusal),

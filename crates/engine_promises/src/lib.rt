@@ -1,5 +1,7 @@
 // What each call of the engine promises, and the two numbers of a line that every call reads first.
 
+#![tactic(auto)]
+
 ghost use Rattle.std.specs.Prelude.{◌≡◌};
 ghost use Rattle.words.specs.Le.{load_at};
 ghost use Rattle.engine_rows.specs.Layout.{word_place, capacity_word, stations_word};

@@ -4,6 +4,8 @@
 // byte 28 on whether there has been one, of 4: 1 for yes, 0 for no. A station's numbers take 28: the parent of 2, two that are free, then calm, spring,
 // threshold, hop, noise and seed of 4 each.
 
+#![tactic(auto)]
+
 ghost use Rattle.std.specs.Prelude.{◌≡◌};
 ghost use Rattle.engine_records.specs.Records.{state_at, put_state, stored_config, put_config};
 

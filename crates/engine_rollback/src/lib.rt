@@ -5,6 +5,8 @@
 // lower station than the one whose event is undone (a parent is below its station, and what a station has sent itself is unrun when its latest run event is
 // undone), so they are at most n deep.
 
+#![tactic(auto)]
+
 ghost use Rattle.std.specs.Prelude.{◌≡◌, ◌⊎◌, true, ◌+◌, ◌≤◌, ◌<◌};
 ghost use Rattle.engine_moves.specs.RunCount.{runs_below};
 ghost use Rattle.engine_events.specs.Promises.{AfterHeader};
@@ -121,7 +123,7 @@ fn roll_back(b: &mut [u8], n: u16, c: u16, s: u16, e: Event) -> u64
 }
 
 // What adding an event answers: its node, and how many events are undone.
-#[derive(Drop)]
+#[derive(Clone, Copy)]
 pub struct Added {
     pub node: u16,
     pub undone: u64,

@@ -8,6 +8,8 @@
 //
 // So a station takes 208 of the 256 bytes that number 7 counts for it: 128 in its row, 16 of links, 64 in the calendar's part.
 
+#![tactic(auto)]
+
 ghost use Rattle.std.specs.Prelude.{◌≡◌, ◌+◌, ◌≤◌, ◌<◌};
 ghost use Rattle.line.specs.Event.{before as isBefore};
 ghost use Rattle.words.specs.Le.{load_at, store_at};

@@ -3,6 +3,8 @@
 // A call first judges, by reading alone, and then changes: so a refusal leaves the buffer as it was. Each takes any bytes; a buffer that is too short for the
 // numbers of its own header, which no opening leaves so, is refused with 7.
 
+#![tactic(auto)]
+
 ghost use Rattle.std.specs.Prelude.{◌≡◌, ◌≤◌, length};
 ghost use Rattle.rules.specs.Engine.Call.{RunStation};
 ghost use Rattle.engine_promises.specs.Answers.{run_said};
@@ -59,7 +61,7 @@ fn add_send(b: &mut [u8], n: u16, c: u16, s: Sending) -> Added
 // ---- a station's run
 
 // What judging a run finds: the node of the station's first unrun event and what running it does, or the refusal.
-#[derive(Drop)]
+#[derive(Clone, Copy)]
 enum RunJudged {
     Accepts { node: u16, effect: Effect },
     Refused(Refusal),

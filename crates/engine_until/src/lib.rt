@@ -3,6 +3,8 @@
 // A turn is a stretch of runs and one commit, at the least unrun time or at the time itself, whichever is less: so places are freed as events are run, and the
 // end is reached by the commit at the time. It takes any bytes.
 
+#![tactic(auto)]
+
 ghost use Rattle.engine_until.specs.Promises.{RunsUntil};
 ghost use Rattle.engine_until.specs.Steps.{Goes, Fronts, Stretches, Settles, Turns};
 
@@ -10,14 +12,14 @@ use engine_answers::{CommitAnswer, LowestAnswer, NextAnswer, UntilAnswer};
 use refusal::Refusal;
 
 // Whether there is more to do.
-#[derive(Drop)]
+#[derive(Clone, Copy)]
 enum Step {
     On,
     End(UntilAnswer),
 }
 
 // How a stretch of runs ended.
-#[derive(Drop)]
+#[derive(Clone, Copy)]
 enum Stretch {
     Ran,
     Refused(Refusal),

@@ -1,5 +1,7 @@
 // An event's entry: the 24 bytes that a commit writes of it, at any byte of a lent buffer.
 
+#![tactic(auto)]
+
 ghost use Rattle.std.specs.Prelude.{◌≡◌};
 ghost use Rattle.entry.specs.Entry.{event_at, put_event, matter_or};
 

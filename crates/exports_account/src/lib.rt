@@ -1,5 +1,7 @@
 // The account's answers as a caller in Rust or C gets them: 0 or the number of a refusal, and the charge in the number that he lends.
 
+#![tactic(auto)]
+
 ghost use Rattle.std.specs.Prelude.{◌≡◌};
 ghost use Rattle.exports_account.specs.AccountCodes.{account_code, charge_code, charge_values};
 

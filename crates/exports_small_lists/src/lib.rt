@@ -1,5 +1,7 @@
 // What writing the small lists answers, as a caller in Rust or C gets it: 0 or the number of a refusal.
 
+#![tactic(auto)]
+
 ghost use Rattle.std.specs.Prelude.{◌≡◌};
 ghost use Rattle.exports_small_lists.specs.ListsCodes.{lists_code};
 

@@ -1,5 +1,7 @@
 // The answers of next and of a run to a time as a caller in Rust or C gets them: a number, and the values in the numbers that he lends.
 
+#![tactic(auto)]
+
 ghost use Rattle.std.specs.Prelude.{◌≡◌};
 ghost use Rattle.exports_until.specs.UntilCodes.{next_code, next_values, until_code, until_values};
 

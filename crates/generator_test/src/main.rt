@@ -1,5 +1,8 @@
 // Writes the first two draws from the seed 1, and the ten thousandth, which Park and Miller publish as the check of an implementation.
 // Then the table of docs/GENERATOR.md: draws worked out by Schrage's cases, and draws by the formula.
+
+#![tactic(auto)]
+
 use libc::STDOUT_FILENO;
 
 // The draw after n draws from x.

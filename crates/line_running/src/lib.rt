@@ -1,5 +1,7 @@
 // Running an event: what it makes of its station's state, and what it sends.
 
+#![tactic(auto)]
+
 ghost use Rattle.std.specs.Prelude.{◌≡◌, ◌+◌};
 ghost use Rattle.generator.specs.Draw.{next_draw};
 ghost use Rattle.line.specs.Station.{silent as silentOf, send as sendOf, period as periodOf, drawn_state, lose, hear, run_read, repeat, pass, run_frame, run_at};

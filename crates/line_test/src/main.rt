@@ -1,12 +1,15 @@
 // A plain machine over crate line, fed the two posts of document 01's worked list: it prints each event before 1001 as it runs it, with time,
 // target, kind, source, number and value, and then the stations' states. The four events are those that the document prints.
+
+#![tactic(auto)]
+
 ghost use Rattle.std.specs.Prelude.{◌<◌};
 
 use libc::STDOUT_FILENO;
 use line::{Config, Event, Matter, Ran, Sending, State};
 
 // Events that wait: the first count of them, in any order.
-#[derive(Drop)]
+#[derive(Clone, Copy)]
 struct Waiting {
     events: [Event; 16],
     count: usize,
@@ -116,7 +119,7 @@ fn print_state(s: State) {
     last(s.reached as u64);
 }
 
-#[derive(Drop)]
+#[derive(Clone, Copy)]
 struct Machine {
     states: [State; 2],
     waiting: Waiting,

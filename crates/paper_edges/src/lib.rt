@@ -1,1 +1,3 @@
 // No code: the edges that the paper marks, as theorems.
+
+#![tactic(auto)]

@@ -1,5 +1,7 @@
 // The plan of a line: what its bytes are, the records that they stand for, and what is out of range in either.
 
+#![tactic(auto)]
+
 ghost use Rattle.std.specs.Prelude.{◌≡◌, ◌<◌};
 ghost use Rattle.line.specs.Station.{parent_out, number_out};
 ghost use Rattle.plan_format.specs.Plan.{offset_of, length_of, begins, config_at, shape_wrong, pair_wrong, any_out, name_out};
@@ -10,7 +12,7 @@ use words::{load16, load32};
 
 // One station of a plan: its numbers, and its name in the first len bytes of `name`.
 #[repr(C)]
-#[derive(Drop)]
+#[derive(Clone, Copy)]
 pub struct Station {
     pub config: Config,
     pub name: [u8; 16],
@@ -18,21 +20,21 @@ pub struct Station {
 }
 
 // What reading a plan answers: how many stations were read, or the refusal.
-#[derive(Drop)]
+#[derive(Clone, Copy)]
 pub enum ReadAnswer {
     Stations(usize),
     Refused(Refusal),
 }
 
 // What writing a plan answers: its length in bytes, or the refusal.
-#[derive(Drop)]
+#[derive(Clone, Copy)]
 pub enum WriteAnswer {
     Length(usize),
     Refused(Refusal),
 }
 
 // Where a station's name stands in a plan: its first byte and its length; or the refusal.
-#[derive(Drop)]
+#[derive(Clone, Copy)]
 pub enum NameAnswer {
     Part(usize, usize),
     Refused(Refusal),

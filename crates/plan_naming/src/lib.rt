@@ -1,5 +1,7 @@
 // A station's name: where it stands in the bytes of a plan, and the name itself as a part of them.
 
+#![tactic(auto)]
+
 ghost use Rattle.std.specs.Prelude.{◌≡◌, ℕ, ◌+◌, ◌≤◌, length};
 ghost use Rattle.plan_naming.specs.Naming.{naming, IsPart};
 ghost use Rattle.plan_naming.specs.Promises.{ShowsName};
@@ -8,7 +10,7 @@ use plan_format::{NameAnswer, ReadAnswer, Station};
 use refusal::Refusal;
 
 // The same with the name itself, a part of the plan's bytes: no bytes where it is refused.
-#[derive(Drop)]
+#[derive(Clone, Copy)]
 pub struct Named<'a> {
     pub answer: NameAnswer,
     pub part: &'a [u8],

@@ -1,5 +1,7 @@
 // The plan's reader: the bytes are judged, and then their records are read into a lent list.
 
+#![tactic(auto)]
+
 ghost use Rattle.std.specs.Prelude.{◌≡◌, false, ◌++◌, ◌+◌, ◌<◌, ◌≤◌, length, take, drop};
 ghost use Rattle.plan_format.specs.Lowest.{lowest};
 ghost use Rattle.plan_format.specs.Plan.{padded, station_at, stations_from, pair_wrong, field_wrong, name_wrong};

@@ -1,4 +1,7 @@
 // Judges plans and writes a line for each: the number of stations, or `no` with the refusal's number and, for 2, 4 and 5, the station.
+
+#![tactic(auto)]
+
 use libc::STDOUT_FILENO;
 use line::Config;
 use plan::ReadAnswer;

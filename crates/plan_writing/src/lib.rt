@@ -1,5 +1,7 @@
 // The plan's writer: a list of station records is judged in a first pass, and written into lent bytes in a second.
 
+#![tactic(auto)]
+
 ghost use Rattle.std.specs.Prelude.{◌≡◌, ◌++◌, cond, true, false, ◌+◌, ◌*◌, ◌<◌, ◌≤◌, length, take};
 ghost use Rattle.std.proofs.lemmas.List.Edits.{sets};
 ghost use Rattle.words.specs.Le.{bytes_of};
@@ -13,7 +15,7 @@ use refusal::Refusal;
 
 // Where a pass over n stations stands: the next station k, where its record begins, and the lowest station below k with a number or a name
 // out of range, or k.
-#[derive(Drop)]
+#[derive(Clone, Copy)]
 struct Pen {
     n: usize,
     k: usize,

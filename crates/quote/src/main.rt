@@ -1,4 +1,7 @@
 // The quote: plan.bin and a scenario on the standard input, in; the table, the bars and the figure out, and quote.svg.
+
+#![tactic(auto)]
+
 use libc::{STDERR_FILENO, STDIN_FILENO};
 
 fn main() {

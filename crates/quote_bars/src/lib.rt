@@ -2,6 +2,8 @@
 //
 // The first day begins at x = 90, bars stand on y = 344, and are 280 high at most.
 
+#![tactic(auto)]
+
 ghost use Rattle.std.specs.Prelude.{◌≤◌};
 
 use quote_numbers::{HEARD, LOST};

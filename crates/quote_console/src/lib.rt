@@ -1,5 +1,7 @@
 // The quote's program: a plan and a scenario in; a table, bars, the figure and a picture out. What is found is crate quoting; here are input and output.
 
+#![tactic(auto)]
+
 ghost use Rattle.std.specs.Prelude.{◌≡◌, length};
 
 use engine_answers::UntilAnswer;

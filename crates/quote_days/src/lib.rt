@@ -1,5 +1,7 @@
 // What a quote prints of the collector: its frames of each day, those of each hour of the day (crate quote_hours), and the figure.
 
+#![tactic(auto)]
+
 use libc::STDOUT_FILENO;
 use quote_numbers::{HEARD, LOST};
 use text_writing::{append_byte, append_number, append_right, append_word};

@@ -1,5 +1,7 @@
 // The hours of the day in a quote: what the collector hears and loses in each of the 24, of all days, with bars.
 
+#![tactic(auto)]
+
 use libc::STDOUT_FILENO;
 use quote_numbers::{HEARD, LOST};
 use text_writing::{append_byte, append_number, append_right, append_times, append_word};

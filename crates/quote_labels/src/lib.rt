@@ -1,5 +1,7 @@
 // Texts of an SVG picture, each written to a file as a line.
 
+#![tactic(auto)]
+
 use text_writing::{append_number, append_word};
 
 // The start of a text at a place, which is its start, its middle or its end by the anchor.

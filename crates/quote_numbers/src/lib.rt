@@ -1,5 +1,7 @@
 // The numbers of a quote: frames between two hours, a mean in tenths, round numbers for scales, and heights in a picture.
 
+#![tactic(auto)]
+
 ghost use Rattle.std.specs.Prelude.{◌≡◌, ◌<◌, ◌≤◌, get_or};
 ghost use Rattle.text_writing.specs.Promises.{Appends};
 ghost use Rattle.quote_numbers.specs.Hours.{count_before, between as betweenHours};

@@ -2,6 +2,8 @@
 //
 // Bars stand on y = 344, from x = 90 to `right`, and are 280 high at most.
 
+#![tactic(auto)]
+
 ghost use Rattle.std.specs.Prelude.{◌≤◌};
 
 use quote_numbers::{HEARD, LOST};

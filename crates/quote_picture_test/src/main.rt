@@ -1,5 +1,7 @@
 // Pictures and reports of made-up hours: of 1 to 366 days, of a collector without a name and of one whose name has the bytes that SVG escapes, and of nothing.
 
+#![tactic(auto)]
+
 ghost use Rattle.std.specs.Prelude.{◌≡◌, ◌≤◌, length};
 
 use libc::STDOUT_FILENO;

@@ -1,9 +1,11 @@
 // How far a quote's run is: a line on standard error each second, from the second one on.
 
+#![tactic(auto)]
+
 use libc::STDERR_FILENO;
 
 // The second that the clock showed last, and how often it has changed, up to 2.
-#[derive(Drop)]
+#[derive(Clone, Copy)]
 pub struct Watch {
     pub second: i64,
     pub changes: u8,

@@ -1,4 +1,7 @@
 // The quote of plans and scenarios that tools/quote_cases.py lists: each refusal, and what is nearly one. What is said goes to the standard output.
+
+#![tactic(auto)]
+
 use libc::STDOUT_FILENO;
 use refusal::Refusal;
 

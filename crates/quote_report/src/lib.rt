@@ -1,5 +1,7 @@
 // What a quote prints: the table of stations, and what the collector heard.
 
+#![tactic(auto)]
+
 use engine::RecordAnswer;
 use plan_format::ReadAnswer;
 

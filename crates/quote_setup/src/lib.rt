@@ -1,5 +1,7 @@
 // A quote is set up: the plan is opened with room for 4096 events, and what the scenario's lines ask is posted.
 
+#![tactic(auto)]
+
 ghost use Rattle.std.specs.Prelude.{◌≤◌};
 ghost use Rattle.quote_setup.specs.Promises.{SetsUp};
 ghost use Rattle.quote_setup.specs.Steps.{ReadsEach, ReadsUnasked, PostsAll};
@@ -10,7 +12,7 @@ use scenario_posting::LinesAnswer;
 
 // Ready to be run for so many days; or the opening's refusal; or the line of the scenario that is no order or whose post is refused; or the refusal of a
 // reading at 0, where no line asks for one.
-#[derive(Drop)]
+#[derive(Clone, Copy)]
 pub enum SetUpAnswer {
     Ready { days: u64 },
     Plan(Refusal),
@@ -51,7 +53,7 @@ fn leaf_width(plan: &[u8]) -> u64
 
 // ---- readings at 0
 
-#[derive(Drop)]
+#[derive(Clone, Copy)]
 enum Readings {
     Posted,
     Refused(Refusal),

@@ -1,5 +1,7 @@
 // Shapes of an SVG picture, each written to a file as a line: the picture's frame, rectangles, rules from left to right.
 
+#![tactic(auto)]
+
 use text_writing::{append_number, append_word};
 
 // A word, and a number after it.

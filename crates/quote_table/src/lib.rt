@@ -1,5 +1,7 @@
 // The table of a quote: a line for each station, with what its plan and its state say.
 
+#![tactic(auto)]
+
 use libc::STDOUT_FILENO;
 use line::State;
 use text_writing::{append_byte, append_right, append_times, append_word};

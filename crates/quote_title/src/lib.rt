@@ -1,5 +1,7 @@
 // The title of a quote's picture: the collector's name and its frames a day.
 
+#![tactic(auto)]
+
 use text_writing::{append_byte, append_word};
 
 // A byte of a text in SVG: three bytes mean something else there.

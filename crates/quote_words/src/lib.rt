@@ -1,5 +1,7 @@
 // What a quote says where there is no figure, and how far a long one has come: a line each, to a file.
 
+#![tactic(auto)]
+
 use io::{print_decimal, write_all};
 use line::Config;
 use refusal::Refusal;

@@ -1,5 +1,7 @@
 // The quote: from the bytes of a plan and of a scenario to what the collector hears and loses, hour by hour.
 
+#![tactic(auto)]
+
 ghost use Rattle.std.specs.Prelude.{◌≤◌, ◌<◌, length};
 ghost use Rattle.quoting.specs.Promises.{Quotes};
 ghost use Rattle.quoting.specs.Steps.{Notes, RunsHour, RunsHours, Concludes};
@@ -11,7 +13,7 @@ use refusal::Refusal;
 
 // Done for so many days. Else there is no figure: the table has fewer than 17568 numbers, and then nothing is done; or the opening is refused; or a line of
 // the scenario, counted from 1; or a reading at 0, where no line asks for one; or the run to an hour did not come to it.
-#[derive(Drop)]
+#[derive(Clone, Copy)]
 pub enum QuoteAnswer {
     Done { days: u64 },
     Short,

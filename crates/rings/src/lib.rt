@@ -3,6 +3,9 @@
 //
 // Each function takes any bytes and any numbers. A link that does not lie whole in the buffer is read as 0 and is not stored. Stores are bounded by n:
 // on any bytes an operation on the table of n nodes changes no byte outside o .. o + 4 n.
+
+#![tactic(auto)]
+
 ghost use Rattle.std.specs.Prelude.{◌≡◌};
 ghost use Rattle.rings.specs.Table.{next_of, prev_of, with_next, with_prev, empty_at, link_after, unlinked};
 

@@ -1,5 +1,7 @@
 // A line of a scenario to its order.
 
+#![tactic(auto)]
+
 ghost use Rattle.std.specs.Prelude.{◌≡◌, ◌++◌, drop};
 ghost use Rattle.scenario.specs.Orders.{days_word, read_word, level_word};
 ghost use Rattle.scenario.specs.Promises.{ReadsOrder};
@@ -8,7 +10,7 @@ use refusal::Refusal;
 use text_reading::Number;
 
 // A line of a scenario: how many days, a reading from a time on, or a level from a time on.
-#[derive(Drop)]
+#[derive(Clone, Copy)]
 pub enum Order {
     Days { days: u64 },
     Read { station: u64, time: u64 },
@@ -16,7 +18,7 @@ pub enum Order {
 }
 
 // A line's order, or refusal 8.
-#[derive(Drop)]
+#[derive(Clone, Copy)]
 pub enum OrderAnswer {
     Is(Order),
     Refused(Refusal),

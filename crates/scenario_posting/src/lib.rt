@@ -1,5 +1,7 @@
 // The lines of a scenario are obeyed one after the other: what each asks is posted to the engine.
 
+#![tactic(auto)]
+
 ghost use Rattle.std.specs.Prelude.{◌≡◌, ◌≤◌, length};
 ghost use Rattle.scenario_posting.specs.Promises.{TakesLines};
 ghost use Rattle.scenario_posting.specs.Steps.{EndsLine, next_line, taken_from, TakesOrder, TakesLine};
@@ -9,7 +11,7 @@ use refusal::Refusal;
 use scenario::{Order, OrderAnswer};
 
 // All lines are taken: the days, and whether a reading was asked for; or a line is refused.
-#[derive(Drop)]
+#[derive(Clone, Copy)]
 pub enum LinesAnswer {
     Taken { days: u64, read: bool },
     Refused { line: u64, refusal: Refusal },
@@ -33,7 +35,7 @@ fn line_end(text: &[u8], from: usize) -> usize
 }
 
 // The days and whether a reading was asked for, after an order; or the refusal.
-#[derive(Drop)]
+#[derive(Clone, Copy)]
 enum Taken {
     On { days: u64, read: bool },
     Refused(Refusal),

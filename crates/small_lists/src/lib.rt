@@ -1,5 +1,7 @@
 // Every list of up to three of seven calls, for checking loggers against the simulator: four bytes a list.
 
+#![tactic(auto)]
+
 ghost use Rattle.std.specs.Prelude.{◌<◌};
 ghost use Rattle.small_lists.specs.Promises.{WritesLists};
 ghost use Rattle.small_lists.specs.Steps.{IsList};
@@ -11,7 +13,7 @@ pub use small_lists_answers::ListsAnswer;
 const UNUSED: u8 = 7;
 
 // A list's four bytes: its length, and its calls by their numbers.
-#[derive(Drop)]
+#[derive(Clone, Copy)]
 struct Four {
     length: u8,
     first: u8,

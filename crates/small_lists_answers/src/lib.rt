@@ -1,8 +1,10 @@
 // What writing the small lists answers.
 
+#![tactic(auto)]
+
 use refusal::Refusal;
 
-#[derive(Drop)]
+#[derive(Clone, Copy)]
 pub enum ListsAnswer {
     Done,
     Refused(Refusal),

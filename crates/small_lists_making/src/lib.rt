@@ -1,5 +1,7 @@
 // The calls of the small lists on an engine, by their numbers: what a logger is held against. What is answered goes into a lent text, as the bench prints it.
 
+#![tactic(auto)]
+
 ghost use Rattle.std.specs.Prelude.{◌<◌};
 ghost use Rattle.bench_answers.specs.Promises.{InText, OpensBench};
 ghost use Rattle.small_lists_making.specs.Plan.{bench_plan};

@@ -1,5 +1,8 @@
 // Makes every small list of calls on an engine of its own and writes a line for each: its four bytes, and each call as the bench's command with what the bench prints
 // for it. This is what a logger is held against; tools/small_lists.py writes the same lines from a reading of the documents that shares nothing with the crates.
+
+#![tactic(auto)]
+
 use libc::STDOUT_FILENO;
 use small_lists::ListsAnswer;
 

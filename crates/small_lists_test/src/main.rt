@@ -1,5 +1,8 @@
 // Writes the small lists to outputs of several lengths, each a part of 1700 bytes of 165, and writes a line for each: the answer, how many bytes are 165 still, and
 // the sum of all bytes. Then some lists of the last output, and what stands after them. tools/small_lists.py writes the same lines from a reading of the document.
+
+#![tactic(auto)]
+
 use libc::STDOUT_FILENO;
 use small_lists::ListsAnswer;
 
@@ -27,7 +30,7 @@ fn tell(a: ListsAnswer) {
 }
 
 // How many bytes are 165, and the sum of all.
-#[derive(Drop)]
+#[derive(Clone, Copy)]
 struct Totals {
     same: u64,
     sum: u64,

@@ -1,4 +1,7 @@
 // Star lines on the engine: for a plan and a commit time a line of what the collector has heard, from its record after that commit, and of the tariff.
+
+#![tactic(auto)]
+
 use engine::{CommitAnswer, OpenAnswer, RecordAnswer};
 use libc::STDOUT_FILENO;
 

@@ -1,5 +1,7 @@
 // The star tariff's program on plans of every kind, each with some lines of the input: those that tools/star_tariff.py lists.
 
+#![tactic(auto)]
+
 // So many lines for one plan. Each call reads one and leaves the rest.
 fn ask(path: &[u8], lines: u64) {
     let mut k: u64 = 0;

@@ -1,5 +1,7 @@
 // The tariff of a star line: which plans are stars, and how many frames the collector hears by a commit time.
 
+#![tactic(auto)]
+
 ghost use Rattle.std.specs.Prelude.{◌≡◌, ◌≤◌};
 ghost use Rattle.plan_format.specs.Line.{line_of};
 ghost use Rattle.plan_format.specs.Reading.{judging};

@@ -1,5 +1,7 @@
 // The star tariff's program: a plan and a commit time in, one line out.
 
+#![tactic(auto)]
+
 ghost use Rattle.tariff_console.specs.Promises.{TellsTariff, RepliesTariff};
 
 use bench_parsing::Number;

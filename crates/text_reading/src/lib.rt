@@ -1,12 +1,14 @@
 // Numbers and words in a line of text: whether it begins with a word, the number at a place, after one space, to the line's end.
 
+#![tactic(auto)]
+
 ghost use Rattle.std.specs.Prelude.{◌≡◌, [], ◌∷◌, drop};
 ghost use Rattle.text.specs.Numeral.{digit_count, total};
 ghost use Rattle.text_reading.specs.Promises.{Begins, Numbers, Lasts};
 ghost use Rattle.text_reading.specs.Steps.{total_of};
 
 // A number and the place after it, or none.
-#[derive(Drop)]
+#[derive(Clone, Copy)]
 pub enum Number {
     Value(u64, usize),
     Absent,
@@ -47,7 +49,7 @@ fn digit_count(line: &[u8], at: usize) -> usize
     i - at
 }
 
-#[derive(Drop)]
+#[derive(Clone, Copy)]
 enum Total {
     Sum(u64),
     Over,

@@ -1,5 +1,7 @@
 // Bytes and numbers that are appended to a text: each function writes from byte `at` on as many bytes as have room, and answers the place after them.
 
+#![tactic(auto)]
+
 ghost use Rattle.std.specs.Prelude.{◌≡◌, [], ◌∷◌, length, replicate};
 ghost use Rattle.text.specs.Decimal.{decimal};
 ghost use Rattle.text.specs.Padded.{right_in};

@@ -1,0 +1,48 @@
+-- The station is taken out where it is registered, then put in.
+use mathlib.Core.Path.{refl, sym, subst}
+use Prim.Native.Nat.{ℕ}
+use native.Mathlib.Omega.{arith}
+use Rattle.calendar_shapes.specs.Rule.{arity_in}
+use Rattle.calendar_cells.specs.Table.{Table}
+use Rattle.calendar_cells.proofs.TableLaws.{too_short, by_row}
+use Rattle.calendar_buckets.specs.Promises.{Placed, bucket_for}
+use Rattle.calendar_buckets.proofs.Takes.{kept_same, kept_on}
+use Rattle.calendar_buckets.proofs.Puts.{put_after, put_nothing}
+use borrow.Author.Rules.{rules}
+use Rattle.calendar_buckets.proofs.put.Goals as goal
+
+pub returns-then-s-ge256 : goal.returns-then-s-ge256
+returns-then-s-ge256 c = (kept_same _, (λ h. refl, λ a T l d m. absurd (omega arith)))
+
+pub returns-then-due-eq0 : goal.returns-then-due-eq0
+returns-then-due-eq0 c = (kept_same _, (λ h. refl, λ a T l d m. absurd (omega arith)))
+
+pub returns-then-due-gt-LAST : goal.returns-then-due-gt-LAST
+returns-then-due-gt-LAST c = (kept_same _, (λ h. refl, λ a T l d m. absurd (omega arith)))
+
+pub returns-then-b-lt-BYTES : goal.returns-then-b-lt-BYTES
+returns-then-b-lt-BYTES c = (kept_same _, (λ h. refl, λ a T l d m. absurd (too_short T c.if-b-lt-BYTES.true)))
+
+pub returns : goal.returns
+returns c =
+    let args = c.args in
+    let if1 = c.if-s-ge256 in
+    let if2 = c.if-due-eq0 in
+    let if3 = c.if-due-gt-LAST in
+    let if4 = c.if-b-lt-BYTES in
+    let take = c.take in
+    let word = c.word-row in
+    let bucket = c.bucket-list in
+    let insert = c.insert in (
+      kept_on take.ensures.0 insert.ensures.0,
+      (
+        λ h. absurd (put_nothing _ _ _ if1.false if2.false if3.false if4.false h),
+        λ a T l d m.
+            let G = take.ensures.1.1 a T l in
+            let e = by_row a _ _ word.ensures G.changed.table in
+            put_after G
+            (subst (λ (k : ℕ). Placed k args.s args.due (bucket_for k args.leaf args.s) take.new.0 insert.new.0) (sym e)
+            (subst (λ (k : ℕ). Placed (arity_in word.result) args.s args.due k take.new.0 insert.new.0) bucket.ensures.0
+            (insert.ensures.1 (subst (λ (k : ℕ). Table k take.new.0) e G.changed.table) G.due_is))),
+      ),
+    )

@@ -1,0 +1,8 @@
+-- A cell is a number in the bytes.
+use Rattle.calendar_cells.specs.Cells.{link_at}
+use borrow.Author.Rules.{rules}
+use Rattle.calendar_cells.proofs.link.Goals as goal
+
+pub returns : goal.returns
+unfolding link_at
+returns c = c.load16.ensures

@@ -1,0 +1,14 @@
+-- Before each turn, the stations below from stand where they belong. The measure is what is left of the 256 stations.
+use mathlib.Core.Path.{◌≡◌}
+use Prim.Native.Nat.{ℕ, ◌≤◌, ◌-◌}
+use native.Mathlib.Omega.{arith}
+use lib.ListN.{length}
+use borrow.Author.Rules.{rules}
+use Rattle.calendar_floor.proofs.Fetching.{SettledTo, settle_start, settle_step, settle_none, settle_end}
+use Rattle.calendar_floor.proofs.settle.Given as goal
+
+abbrev pub invariant-loop-from : goal.invariant-loop-from
+invariant-loop-from l = (l.from ≤ 256) × (length l.b ≡ length l.initial.b) × ((a : ℕ) → SettledTo a l.from l.initial.b l.b)
+
+abbrev pub decreases-loop-from : goal.decreases-loop-from
+decreases-loop-from l = 256 - l.from

@@ -1,0 +1,28 @@
+-- The least station is taken.
+use mathlib.Core.Path.{subst}
+use native.Mathlib.Omega.{arith}
+use borrow.Author.Rules.{rules}
+use Rattle.calendar_header.specs.Promises.{Names}
+use Rattle.calendar_registering.proofs.Extracting.{extract_at, extract_none}
+use Rattle.calendar_registering.proofs.extract.Goals as goal
+
+pub overflow_cast-station : goal.overflow_cast-station
+overflow_cast-station c =
+    let lowest = c.lowest-at in
+    let at = c.at-1 in
+    omega (arith, lowest.ensures.station at.given.0.0 at.given.0.1.0 at.given.0.1.1.0 at.given.1)
+
+pub returns-in-At : goal.returns-in-At
+returns-in-At c =
+    let args = c.args in
+    let lowest = c.lowest-at in
+    let at = c.at-1 in
+    let take = c.take in
+    extract_at args.b.now take.new.0 at.given.0.0 at.given.0.1.0 at.given.0.1.1.0
+    (subst (Names args.b.now) at.given.1 lowest.ensures) take.ensures.0 take.ensures.1.1
+
+pub returns-in-Refused : goal.returns-in-Refused
+returns-in-Refused c =
+    let args = c.args in
+    let lowest = c.lowest-at in
+    extract_none args.b.now c.in-Refused.e (subst (Names args.b.now) c.in-Refused.is lowest.ensures)

@@ -1,0 +1,15 @@
+-- Each node without a bit from s on passes its stations by.
+use mathlib.Core.Path.{refl}
+use Prim.Native.Nat.{◌-◌, ◌≤◌}
+use native.Mathlib.Omega.{arith}
+use Rattle.calendar_shapes.specs.Rule.{arity_in}
+use Rattle.calendar_cells.specs.Table.{Table}
+use Rattle.calendar_search.proofs.Laters.{NoneTo, none_start, none_end, from_least, from_next, found_at, none_at}
+use borrow.Author.Rules.{rules}
+use Rattle.calendar_search.proofs.later_in.Given as goal
+
+abbrev pub invariant-loop-s : goal.invariant-loop-s
+invariant-loop-s l = (l.from ≤ l.s) × (Table (arity_in l.row) l.b → NoneTo (arity_in l.row) l.b l.from l.s)
+
+abbrev pub decreases-loop-s : goal.decreases-loop-s
+decreases-loop-s l = 256 - l.s

@@ -1,0 +1,9 @@
+-- Each row of the table is right.
+use native.Mathlib.Omega.{arith}
+use Prim.Native.Nat.{◌%◌}
+use Rattle.calendar_shapes.proofs.Table.{row_right}
+use borrow.Author.Rules.{rules}
+use Rattle.calendar_shapes.proofs.row.Goals as goal
+
+pub returns : goal.returns
+returns c = row_right (c.args.i % 4) (omega arith)

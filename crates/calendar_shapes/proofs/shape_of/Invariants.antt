@@ -1,0 +1,14 @@
+-- The rows before i have another arity.
+use mathlib.Core.Path.{◌≡◌, subst}
+use Prim.Native.Nat.{ℕ, ◌+◌, ◌-◌, ◌%◌, ◌^◌, ◌≤◌, ◌<◌}
+use native.Mathlib.Omega.{arith}
+use borrow.Author.Rules.{rules}
+use Rattle.calendar_shapes.specs.Rule.{Right}
+use Rattle.calendar_shapes.proofs.Table.{none_more}
+use Rattle.calendar_shapes.proofs.shape_of.Given as goal
+
+abbrev pub invariant-loop-i : goal.invariant-loop-i
+invariant-loop-i l = (l.i ≤ 4) × ((k : ℕ) → k < l.i → l.arity ≡ 2 ^ (3 + k) → ⊥)
+
+abbrev pub decreases-loop-i : goal.decreases-loop-i
+decreases-loop-i l = 4 - l.i

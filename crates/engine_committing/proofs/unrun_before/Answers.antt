@@ -1,0 +1,13 @@
+-- The lowest station's time decides.
+use borrow.Author.Rules.{rules}
+use Rattle.engine_committing.proofs.UnrunBefore.{none_earlier, some_earlier}
+use Rattle.engine_committing.proofs.unrun_before.Goals as goal
+
+pub returns-in_default : goal.returns-in_default
+returns-in_default c =
+    none_earlier c.args.time c.lowest.ensures c.in_default.field-0 c.in_default.is
+
+pub returns : goal.returns
+returns c =
+    let t = c.t-1.given in
+    some_earlier c.args.time c.lowest.ensures t.0.0 t.0.1.0 t.0.1.1.0 t.1

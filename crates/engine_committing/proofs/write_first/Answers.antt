@@ -1,0 +1,60 @@
+-- The first event of the log is written and leaves, so many times; the measure is how many are left. The loop ends where the log has no more events
+-- (`writing-stops`), or after that many (`writing-ends`).
+use mathlib.Core.Path.{◌≡◌, refl, ap, ◌∙◌}
+use Prim.Native.Nat.{◌-◌, ◌≤◌}
+use native.Mathlib.Omega.{arith}
+use Rattle.engine_index.proofs.Places.Range.{logged_at}
+use Rattle.engine_index.proofs.Places.FoundSlot.{finds}
+use borrow.Author.Rules.{rules}
+use lib.ListN.{length}
+use Rattle.entry.proofs.EntryLaws.{length_event}
+use Rattle.engine_events.specs.Promises.{AfterHeader}
+use Rattle.engine_events.proofs.AfterHeader.{after_header_same, after_header_on}
+use Rattle.engine_promises.proofs.FoundSlots.{no_slot, slot_event}
+use Rattle.engine_committing.proofs.Writing.{Writing, writing_start, writing_on, writing_stops, writing_ends}
+use Rattle.engine_committing.proofs.write_first.Goals as goal
+use Rattle.engine_committing.proofs.write_first.Goals.{After-slot_in-i, At-loop-k}
+
+-- the place of the loop, seen from its look into the log
+abbrev around : After-slot_in-i invariant-loop decreases-loop → At-loop-k invariant-loop decreases-loop
+around c = c.before.before.before.before.before
+
+pub loop-k-init : goal.loop-k-init
+loop-k-init c = (omega arith, refl, after_header_same _, writing_start _ _ _ _ _)
+
+pub returns-then-c-i : goal.returns-then-c-i
+returns-then-c-i c =
+    let inv = (around (goal.at.returns-then-c-i c).After-slot_in-i).loop.invariant in (
+      inv.2,
+      writing_stops _ _ _ _ _ inv.3 c.loop-k-test.true (logged_at _ _ _ _ c.first_logged-x.ensures)
+          (no_slot (finds c.slot_in-i.ensures) c.if-c-i.true),
+    )
+
+pub loop-k-preserved : goal.loop-k-preserved
+loop-k-preserved c =
+    let inv = (around (goal.at.loop-k-preserved c).After-first_logged-x).loop.invariant in
+    let more = c.loop-k-test.true in
+    let gone = c.release.ensures in (
+      omega (arith, more),
+      ap length c.write.ensures ∙ length_event _ _ _ ∙ inv.1,
+      after_header_on inv.2 gone.0,
+      writing_on _ _ _ _ _ inv.3 more (logged_at _ _ _ _ c.first_logged-x.ensures)
+          (slot_event (finds c.slot_in-i.ensures) _ c.if-c-i.false c.event-e.ensures) c.write.ensures gone.1,
+    )
+
+pub returns : goal.returns
+returns c =
+    let inv = c.loop-k.invariant in
+    (inv.2, writing_ends _ _ _ _ _ inv.3 (omega (arith, inv.0, c.loop-k-test.false)))
+
+pub overflow_cast-k : goal.overflow_cast-k
+overflow_cast-k c = omega arith
+
+pub overflow_mul-k : goal.overflow_mul-k
+overflow_mul-k c = omega arith
+
+pub overflow_add-k : goal.overflow_add-k
+overflow_add-k c = omega arith
+
+pub loop-k-smaller : goal.loop-k-smaller
+loop-k-smaller c = omega arith

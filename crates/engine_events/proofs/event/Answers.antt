@@ -1,0 +1,6 @@
+-- The call's slot is the node's.
+use borrow.Author.Rules.{rules}
+use Rattle.engine_events.proofs.event.Goals as goal
+
+pub returns : goal.returns
+returns c = rw (c.event.ensures, c.slot.ensures)

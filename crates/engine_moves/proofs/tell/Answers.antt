@@ -1,0 +1,16 @@
+-- The calendar is told what stands at the first unrun node: nothing (`tell_none`), or an event's time (`tell-time`).
+use native.Mathlib.Omega.{arith}
+use Rattle.engine_moves.proofs.Bytes.StationTime.{tell_none, tell_time}
+use borrow.Author.Rules.{rules}
+use Rattle.engine_moves.proofs.tell.Goals as goal
+
+pub returns-then-x-eq0 : goal.returns-then-x-eq0
+returns-then-x-eq0 c =
+    tell_none _ _ _ _ _ c.requires.2 c.calendar_start-start.ensures (omega (arith, c.requires, c.calendar_start-start.ensures))
+    c.unregister.auto.b c.first_unrun-x.ensures c.if-x-eq0.true c.unregister.ensures
+
+pub returns : goal.returns
+returns c =
+    tell_time _ _ _ _ _ c.requires.2 c.calendar_start-start.ensures (omega (arith, c.requires, c.calendar_start-start.ensures))
+    c.register.auto.b c.first_unrun-x.ensures c.if-x-eq0.false c.slot.ensures c.time-t.ensures
+    c.register.ensures

@@ -1,0 +1,16 @@
+-- A line of more than 256 stations removes nothing (`removes-else`); else every target is below n (`removes`).
+use native.Mathlib.Omega.{arith}
+use borrow.Author.Rules.{rules}
+use Rattle.engine_events.proofs.AfterHeader.{after_header_same}
+use Rattle.engine_rollback.proofs.RunCount.{runs_few}
+use Rattle.engine_rollback.proofs.FromCalls.{removes, removes_else}
+use Rattle.engine_rollback.proofs.remove.Goals as goal
+
+pub returns-then-n-gt256 : goal.returns-then-n-gt256
+returns-then-n-gt256 c = (after_header_same _, (omega arith, removes_else _ _ _ (omega arith)))
+
+pub returns : goal.returns
+returns c =
+    let a = c.args in
+    let u = c.remove_below.ensures in
+    (u.0, (omega (arith, u.1.0, runs_few a.n a.b.now a.c), removes _ _ _ u.1.1.1))

@@ -1,0 +1,9 @@
+-- The call's place is the slot's row.
+use Rattle.words.specs.Le.{load_at}
+use mathlib.Core.Path.{◌∙◌, ap}
+use borrow.Author.Rules.{rules}
+use Rattle.engine_rows.proofs.time.Goals as goal
+
+pub returns : goal.returns
+returns c =
+    c.load64.ensures ∙ ap (λ z. load_at 8 z c.args.b.now) c.slot_row.ensures.0

@@ -1,0 +1,28 @@
+-- Each send is one send of the state before it, and the two effects together are those of the second send on top of the first.
+use mathlib.Core.Path.{sym, ◌∙◌, ap}
+use borrow.Author.Tests.{ne_eqb, eq-eqb}
+use Rattle.line.specs.Station.{run_read}
+use Rattle.line.specs.Answer.{said}
+use Rattle.line_running.proofs.Answers.{ahead, single, stays, chain}
+use borrow.Author.Rules.{rules}
+use Rattle.line_running.proofs.run_read.Goals as goal
+
+pub returns-then-station-eq0 : goal.returns-then-station-eq0
+unfolding run_read
+returns-then-station-eq0 c = rw (eq-eqb _ 0 c.if-station-eq0.true) c.silent.ensures.said
+
+pub returns-in_default : goal.returns-in_default
+unfolding run_read
+returns-in_default c = rw (ne_eqb _ 0 c.if-station-eq0.false, ← c.period.ensures) (stays _ _ _ _ _ (ap said (sym c.in_default.is) ∙ c.send.ensures.said))
+
+pub returns-in_default-send : goal.returns-in_default-send
+unfolding run_read
+returns-in_default-send c =
+    rw (ne_eqb _ 0 c.if-station-eq0.false, ← c.period.ensures, chain _ _ _ _ _ _ c.send.ensures _ c.in-Done.is)
+    (ap (ahead _) (ap said (sym c.enum_told-in_default-send-1.given.1) ∙ c.send-2.ensures.said))
+
+pub returns : goal.returns
+unfolding run_read
+returns c =
+    rw (ne_eqb _ 0 c.if-station-eq0.false, ← c.period.ensures, chain _ _ _ _ _ _ c.send.ensures _ c.in-Done.is)
+    (ap (ahead _) (single _ _ c.send-2.ensures _ c.in-Done-send.is))

@@ -1,0 +1,40 @@
+-- No station below k is wrong, and each pair is right.
+use Prim.Native.Nat.{◌-◌, ◌≤◌}
+use native.Mathlib.Omega.{arith}
+use mathlib.Core.Path.{◌≡◌, ◌∙◌}
+use borrow.Author.Rules.{rules}
+use Rattle.plan_format.specs.Lowest.{lowest}
+use Rattle.plan_format.specs.Plan.{name_wrong}
+use Rattle.plan_format.proofs.Lows.{lowest_zero, lowest_next, lowest_found, lowest_end, lowest_none}
+use Rattle.plan_format.proofs.Pairs.{name_is}
+use Rattle.plan_reading.proofs.lowest_name.Goals as goal
+use Rattle.plan_reading.proofs.lowest_name.Goals.{After-name_out}
+
+pub loop-k-init : goal.loop-k-init
+loop-k-init c = (omega arith, lowest_zero _)
+
+pub station_at-requires : goal.station_at-requires
+station_at-requires c = (omega arith, lowest_none _ c.args.n _ c.requires.1 (omega arith))
+
+-- the call's answer is the station's
+station : (c : After-name_out invariant-loop decreases-loop) → let l = c.before.before.before in
+    name_wrong l.before.before.args.plan.now l.loop.k ≡ c.name_out.result
+station c = name_is _ _ c.before.station-at.ensures c.name_out.ensures
+
+pub returns-then-name_out : goal.returns-then-name_out
+returns-then-name_out c = lowest_found _ _ _ c.loop-k.invariant.1 (station (goal.at.returns-then-name_out c).After-name_out ∙ c.if-name_out.true) (omega arith)
+
+pub loop-k-preserved : goal.loop-k-preserved
+loop-k-preserved c = (omega arith, lowest_next _ _ c.loop-k.invariant.1 (station (goal.at.loop-k-preserved c).After-name_out ∙ c.if-name_out.false))
+
+pub returns : goal.returns
+returns c = lowest_end _ _ _ c.loop-k.invariant.1 (omega arith)
+
+pub overflow_cast-k : goal.overflow_cast-k
+overflow_cast-k c = omega arith
+
+pub overflow_add-k : goal.overflow_add-k
+overflow_add-k c = omega arith
+
+pub loop-k-smaller : goal.loop-k-smaller
+loop-k-smaller c = omega arith

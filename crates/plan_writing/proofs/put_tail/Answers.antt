@@ -1,0 +1,29 @@
+-- `put_tail` meets its contract: three stores, each after the last, are one run.
+use Rattle.plan_writing.specs.Steps.{tail_bytes}
+use Rattle.plan_writing.proofs.WriteStores.{store_sets, store_then}
+use Rattle.words.proofs.Laws.{length_bytes}
+use Rattle.words.specs.Le.{bytes_of}
+use lib.Seq.{sets}
+use lib.ListN.{length-append}
+use mathlib.Core.List.{◌++◌, append_assoc}
+use mathlib.Core.Path.{◌≡◌, ap, ◌∙◌}
+use native.Mathlib.Omega.{arith}
+use Prim.Native.Nat.{◌+◌}
+use borrow.Author.Rules.{rules}
+use Rattle.plan_writing.proofs.put_tail.Goals as goal
+
+pub returns : goal.returns
+returns c =
+    let a = c.args in
+    let l = a.out.now in
+    let at = a.at in
+    let v = a.c in
+    let p₁ = bytes_of 4 v.hop in
+    let p₂ = p₁ ++ bytes_of 4 v.noise in
+    let e : p₂ ++ bytes_of 4 v.seed ≡ tail_bytes v = simp append_assoc in
+    store_then l at (at + 8) 4 v.seed p₂
+    (store_then l at (at + 4) 4 v.noise p₁
+    (c.store32.ensures ∙ store_sets 4 at v.hop l (omega arith))
+    c.store32-2.ensures (simp length_bytes) (omega arith))
+    c.store32-3.ensures (simp (length-append, length_bytes)) (omega arith)
+    ∙ ap (sets l at) e

@@ -1,0 +1,16 @@
+-- A refused plan is no star's; of an accepted one every station is tested.
+use native.Mathlib.Omega.{arith}
+use mathlib.Core.Path.{sym, ◌∙◌}
+use borrow.Author.Rules.{rules}
+use Rattle.tariff.proofs.Checking.{judged_no, judged_yes}
+use Rattle.tariff.proofs.Summing.{few}
+use Rattle.tariff.proofs.is_star.Goals as goal
+
+pub overflow_cast-n : goal.overflow_cast-n
+overflow_cast-n c = let m = few _ _ (sym c.judge.ensures.answer ∙ c.in-Stations.is) in record { fits = omega arith }
+
+pub returns-in-Stations : goal.returns-in-Stations
+returns-in-Stations c = c.stars.ensures ∙ sym (judged_yes _ _ (sym c.judge.ensures.answer ∙ c.in-Stations.is))
+
+pub returns-in-Refused : goal.returns-in-Refused
+returns-in-Refused c = sym (judged_no _ c.judge.ensures.answer c.in-Refused.keys2)
