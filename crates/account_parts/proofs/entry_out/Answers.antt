@@ -25,7 +25,7 @@ unfolding entry_at
 returns-in_default c =
     out_by_matter _ _ (omega (arith, c.load64.ensures, c.if-load64-gt-HORIZON.false)) (omega (arith, c.load16.ensures, c.if-n-load16.false))
     (rw (← c.load16-2.ensures) (sym c.source_out.ensures ∙ c.if-source_out.false))
-    (rw (← c.load32-kind.ensures, ← c.load32-value.ensures, ← c.matter_of.ensures.means, c.enum_told-in_default-1.given.1))
+    (rw (← c.load32-kind.ensures, ← c.load32-value.ensures, ← c.matter_of.ensures.means, c.in_default.is))
 
 pub returns : goal.returns
 unfolding entry_at

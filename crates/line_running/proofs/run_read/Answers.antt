@@ -19,7 +19,7 @@ pub returns-in_default-send : goal.returns-in_default-send
 unfolding run_read
 returns-in_default-send c =
     rw (ne_eqb _ 0 c.if-station-eq0.false, ← c.period.ensures, chain _ _ _ _ _ _ c.send.ensures _ c.in-Done.is)
-    (ap (ahead _) (ap said (sym c.enum_told-in_default-send-1.given.1) ∙ c.send-2.ensures.said))
+    (ap (ahead _) (ap said (sym c.in_default-send.is) ∙ c.send-2.ensures.said))
 
 pub returns : goal.returns
 unfolding run_read

@@ -6,4 +6,4 @@ pub returns-in-Length : goal.returns-in-Length
 returns-in-Length c = rw c.in-Length.is c.pen_of.ensures
 
 pub returns-in-Refused : goal.returns-in-Refused
-returns-in-Refused c = rw c.enum_told-in-Refused-1.given.1 c.pen_of-in-Refused.ensures
+returns-in-Refused c = rw c.in-Refused.is c.pen_of-in-Refused.ensures

@@ -1,0 +1,13 @@
+-- The bytes that are passed agree.
+use mathlib.Core.Path.{◌≡◌, refl}
+use Prim.Native.Nat.{◌-◌, ◌≤◌}
+use native.Mathlib.Omega.{arith}
+use lib.ListN.{length, take}
+use Rattle.bench_parsing.proofs.Words.{agrees, differs, too_short, whole}
+use Rattle.bench_parsing.proofs.begins.Given as goal
+
+abbrev pub invariant-loop-i : goal.invariant-loop-i
+invariant-loop-i l = (l.i ≤ length l.word) × (l.i ≤ length l.line) × (take l.i l.line ≡ take l.i l.word)
+
+abbrev pub decreases-loop-i : goal.decreases-loop-i
+decreases-loop-i l = length l.word - l.i

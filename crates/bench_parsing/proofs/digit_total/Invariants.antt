@@ -1,0 +1,19 @@
+-- What is read is the total of the digits that are passed: where it is over, so is the whole (`over`).
+use mathlib.Core.Path.{◌≡◌, sym, ap, ◌∙◌}
+use mathlib.Core.List.{List}
+use Prim.Native.Nat.{ℕ, suc, ◌+◌, ◌-◌, ◌*◌, ◌≤◌, ◌<◌}
+use native.Mathlib.Omega.{arith}
+use lib.ListN.{get_or, drop}
+use borrow.Author.Tests.{le-leb, lt-leb}
+use Rattle.bench_parsing.specs.declared.Total.TheVariants.{Over}
+use Rattle.bench_command.specs.Numeral.{digit_count, total}
+use Rattle.bench_parsing.specs.Steps.{total_of}
+use Rattle.bench_command.proofs.Numerals.{Digit, at_digit, sum_digit, digit_at, total_stops, stops_count, total_least}
+use Rattle.bench_parsing.proofs.digit_total.Given as goal
+
+abbrev pub invariant-loop-k : goal.invariant-loop-k
+invariant-loop-k l =
+    (l.k ≤ l.n) × (l.v ≤ 18446744073709551615) × (total 0 (drop l.at l.line) ≡ total l.v (drop (l.at + l.k) l.line)) × (digit_count (drop (l.at + l.k) l.line) ≡ l.n - l.k)
+
+abbrev pub decreases-loop-k : goal.decreases-loop-k
+decreases-loop-k l = l.n - l.k

@@ -1,0 +1,37 @@
+-- Digits without a leading zero whose total fits are a number, and nothing else is.
+use borrow.Author.Rules.{rules}
+use mathlib.Core.Path.{sym, ◌∙◌}
+use mathlib.Core.Logic.{⊎_elim}
+use native.Mathlib.Omega.{arith}
+use lib.ListN.{length-drop, drop}
+use Rattle.bench_command.proofs.Numerals.{digit_at, count_within}
+use Rattle.bench_parsing.proofs.Found.{none_here, none_zero, none_over, some}
+use Rattle.bench_parsing.proofs.Cases.{over, sum}
+use Rattle.bench_parsing.proofs.number_at.Goals as goal
+
+pub returns-then-n-eq0 : goal.returns-then-n-eq0
+returns-then-n-eq0 c = none_here _ _ _ c.digit_count-n.ensures c.if-n-eq0.true
+
+pub bounds-line-at : goal.bounds-line-at
+bounds-line-at c =
+    let a = c.args in
+    (digit_at a.line.now a.at (omega (arith, c.digit_count-n.ensures, c.if-n-eq0.false))).within
+
+pub returns-then-n-gt1 : goal.returns-then-n-gt1
+returns-then-n-gt1 c = none_zero _ _ _ c.digit_count-n.ensures c.if-line-at-eq48.true c.if-n-gt1.true
+
+pub returns-in_default : goal.returns-in_default
+returns-in_default c =
+    none_over _ _ _ c.digit_count-n.ensures (over _ _ c.in_default.keys2 c.digit_total.ensures)
+
+pub overflow_add-result : goal.overflow_add-result
+overflow_add-result c =
+    let d = drop c.args.at c.args.line.now in
+    omega (arith, c.digit_count-n.ensures, c.if-n-eq0.false, count_within d, length-drop c.args.at c.args.line.now, c.well_formed)
+
+pub returns : goal.returns
+returns c =
+    let s = sum c.in-Sum.v _ (sym c.in-Sum.is ∙ c.digit_total.ensures) in
+    let some-digit = c.if-n-eq0.false in
+    some _ _ _ c.digit_count-n.ensures (omega arith)
+    (λ zero. ⊎_elim (λ w. w.1.left) (λ w. absurd (w.left zero)) c.if-line-at-eq48.branch) _ s.0 s.1

@@ -1,0 +1,12 @@
+-- The line is the word commit with one number after it, or it is refused.
+use borrow.Author.Rules.{rules}
+use Rattle.bench_parsing.proofs.Accepting.{refuses_commit, takes_commit}
+use Rattle.bench_parsing.proofs.Cases.{absent}
+use Rattle.bench_parsing.proofs.parse_commit.Goals as goal
+
+pub returns-in_default : goal.returns-in_default
+returns-in_default c = refuses_commit _ c.requires (c.last_number.ensures.absent (absent _ c.in_default.keys2))
+
+pub returns : goal.returns
+returns c =
+    let h = c.last_number.ensures.found _ _ c.in-Value.is in takes_commit _ c.requires _ h.0 h.1

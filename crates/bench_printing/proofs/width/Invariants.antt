@@ -1,0 +1,15 @@
+-- Each turn takes one digit off, and counts it.
+use mathlib.Core.Path.{◌≡◌}
+use Prim.Native.Nat.{◌+◌, ◌<◌, ◌^◌}
+use native.Mathlib.Omega.{arith}
+use lib.ListN.{length}
+use Rattle.bench_command.specs.Decimal.{decimal}
+use Rattle.bench_command.proofs.Reading.{length_one, length_more}
+use Rattle.bench_printing.proofs.Backward.{at_most_20}
+use Rattle.bench_printing.proofs.width.Given as goal
+
+abbrev pub invariant-loop-rest : goal.invariant-loop-rest
+invariant-loop-rest l = (l.rest < 2 ^ 64) × (l.n + length (decimal l.rest) ≡ length (decimal l.v) + 1)
+
+abbrev pub decreases-loop-rest : goal.decreases-loop-rest
+decreases-loop-rest l = l.rest
