@@ -8,13 +8,6 @@ use Rattle.account.proofs.Adding.{no_costs}
 use Rattle.account.proofs.Answers.{Roomy, room, judged_space, judged_part, judged_charge, judged_done}
 use borrow.Author.Rules.{rules}
 use Rattle.account.proofs.judge_part.Goals as goal
-use Rattle.account.proofs.judge_part.Goals.{After-part_out}
-
-passed : (c : After-part_out) → account_space_out c.args.n (length c.args.b.now) ≡ false
-passed c = sym c.space_out.ensures ∙ c.if-space_out.false
-
-fits : (c : After-part_out) → Roomy c.args.n (length c.args.b.now)
-fits c = room _ _ (passed c)
 
 -- ---- the answers
 pub returns-then-space_out : goal.returns-then-space_out
@@ -25,17 +18,23 @@ overflow_cast-n c = omega (arith, (room c.args.n (length c.args.b.now) (sym c.sp
 
 pub returns-then-part_out : goal.returns-then-part_out
 returns-then-part_out c =
-    judged_part _ _ _ _ (rw c.requires no_costs) (passed (goal.at.returns-then-part_out c).After-part_out) (sym c.part_out.ensures ∙ c.if-part_out.true)
+    let passed : account_space_out c.args.n (length c.args.b.now) ≡ false = sym c.space_out.ensures ∙ c.if-space_out.false in
+    judged_part _ _ _ _ (rw c.requires no_costs) (passed) (sym c.part_out.ensures ∙ c.if-part_out.true)
 
 pub add_costs-requires : goal.add_costs-requires
-add_costs-requires c = ((fits (goal.at.add_costs-requires c).After-part_out).few, c.requires)
+add_costs-requires c =
+    let passed : account_space_out c.args.n (length c.args.b.now) ≡ false = sym c.space_out.ensures ∙ c.if-space_out.false in
+    let fits : Roomy c.args.n (length c.args.b.now) = room _ _ (passed) in
+    ((fits).few, c.requires)
 
 pub returns-then-add_costs : goal.returns-then-add_costs
 returns-then-add_costs c =
-    judged_charge _ _ _ (passed (goal.at.returns-then-add_costs c).After-part_out) (sym c.part_out.ensures ∙ c.if-part_out.false) _ _ c.load32-reading.ensures
+    let passed : account_space_out c.args.n (length c.args.b.now) ≡ false = sym c.space_out.ensures ∙ c.if-space_out.false in
+    judged_charge _ _ _ (passed) (sym c.part_out.ensures ∙ c.if-part_out.false) _ _ c.load32-reading.ensures
     c.load32-frame.ensures _ _ c.add_costs.ensures c.if-add_costs.true
 
 pub returns : goal.returns
 returns c =
-    judged_done _ _ _ (passed (goal.at.returns c).After-part_out) (sym c.part_out.ensures ∙ c.if-part_out.false) _ _ c.load32-reading.ensures
+    let passed : account_space_out c.args.n (length c.args.b.now) ≡ false = sym c.space_out.ensures ∙ c.if-space_out.false in
+    judged_done _ _ _ (passed) (sym c.part_out.ensures ∙ c.if-part_out.false) _ _ c.load32-reading.ensures
     c.load32-frame.ensures _ _ c.add_costs.ensures c.if-add_costs.false

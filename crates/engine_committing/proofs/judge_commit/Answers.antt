@@ -7,13 +7,6 @@ use Rattle.refusal.specs.Tests.{horizon}
 use Rattle.words.specs.Le.{load_at}
 use Rattle.engine_committing.proofs.CommitChecks.{says_space, says_late, says_early, says_unrun, says_short, says_accepted}
 use Rattle.engine_committing.proofs.judge_commit.Goals as goal
-use Rattle.engine_committing.proofs.judge_commit.Goals.{Else-time-header}
-
--- the time is neither late nor early
-in_time : (c : Else-time-header)
-    → let a = c.args in
-    (a.time ≤ horizon + 1) × (load_at 8 16 a.b.now ≤ a.time)
-in_time c = (omega (arith, c.if-time.false), omega (arith, c.header.ensures.0 (omega arith), c.if-time-header.false))
 
 -- ---- refusals
 pub returns-then-not-fits : goal.returns-then-not-fits
@@ -28,15 +21,18 @@ returns-then-time-header c = says_early _ _ _ (omega (arith, c.if-time.false)) (
 
 pub returns-then-unrun_before : goal.returns-then-unrun_before
 returns-then-unrun_before c =
-    says_unrun _ _ _ c.stations-n.ensures c.capacity-c.ensures (in_time (goal.at.returns-then-unrun_before c).Else-time-header).0 (in_time (goal.at.returns-then-unrun_before c).Else-time-header).1 (rw c.if-unrun_before.true at c.unrun_before.ensures)
+    let in_time : let a = c.args in (a.time ≤ horizon + 1) × (load_at 8 16 a.b.now ≤ a.time) = (omega (arith, c.if-time.false), omega (arith, c.header.ensures.0 (omega arith), c.if-time-header.false)) in
+    says_unrun _ _ _ c.stations-n.ensures c.capacity-c.ensures (in_time).0 (in_time).1 (rw c.if-unrun_before.true at c.unrun_before.ensures)
 
 pub returns-then-room-count : goal.returns-then-room-count
 returns-then-room-count c =
-    says_short _ _ _ c.stations-n.ensures c.capacity-c.ensures (in_time (goal.at.returns-then-room-count c).Else-time-header).0 (in_time (goal.at.returns-then-room-count c).Else-time-header).1
+    let in_time : let a = c.args in (a.time ≤ horizon + 1) × (load_at 8 16 a.b.now ≤ a.time) = (omega (arith, c.if-time.false), omega (arith, c.header.ensures.0 (omega arith), c.if-time-header.false)) in
+    says_short _ _ _ c.stations-n.ensures c.capacity-c.ensures (in_time).0 (in_time).1
     (rw c.if-unrun_before.false at c.unrun_before.ensures) c.count_before-count.ensures.counts c.if-room-count.true
 
 -- ---- accepted
 pub returns : goal.returns
 returns c =
-    says_accepted _ _ _ c.stations-n.ensures c.capacity-c.ensures (in_time (goal.at.returns c).Else-time-header).0 (in_time (goal.at.returns c).Else-time-header).1
+    let in_time : let a = c.args in (a.time ≤ horizon + 1) × (load_at 8 16 a.b.now ≤ a.time) = (omega (arith, c.if-time.false), omega (arith, c.header.ensures.0 (omega arith), c.if-time-header.false)) in
+    says_accepted _ _ _ c.stations-n.ensures c.capacity-c.ensures (in_time).0 (in_time).1
     (rw c.if-unrun_before.false at c.unrun_before.ensures) c.count_before-count.ensures.counts (omega (arith, c.if-room-count.false))

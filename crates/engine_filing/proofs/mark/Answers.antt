@@ -9,37 +9,28 @@ use Rattle.engine_index.specs.Layout.{run_ring}
 use Rattle.engine_index.proofs.Changes.FromCalls.{prev_of_lem, mark_made, filed_last}
 use Rattle.engine_index.proofs.Places.Refusals.{found_range, refused_slot, refused_target, mark_none}
 use Rattle.engine_filing.proofs.mark.Goals as goal
-use Rattle.engine_filing.proofs.mark.Goals.{After-log-l, Then-i-c}
-
--- the numbers are in range where a slot is found
-range : (c : Then-i-c) → (c.args.n ≤ 256) × (c.args.c ≤ 4096)
-range c = found_range _ _ c.args.b.now c.args.x (finds c.slot_in-i.ensures) c.if-i-c.true
-
--- the ring of the run events
-ring : (c : After-log-l)
-    → 
-    c.run_ring.result ≡ run_ring c.args.n c.event-e.result.target
-ring c =
-    run_ring_in _ c.args.c (range c.before.before.before.before.before.before.before.before.before.before.before.before.before.before.before.before.before.before.before.before.before.before.before).0 _ c.if-t-n.true
-    c.run_ring.ensures
 
 -- ---- the event is filed in the log after the last one, or by a walk
 pub returns-then-stops : goal.returns-then-stops
 returns-then-stops c =
+    let range : (c.args.n ≤ 256) × (c.args.c ≤ 4096) = found_range _ _ c.args.b.now c.args.x (finds c.slot_in-i.ensures) c.if-i-c.true in
+    let ring : c.run_ring.result ≡ run_ring c.args.n c.event-e.result.target = run_ring_in _ c.args.c (range).0 _ c.if-t-n.true c.run_ring.ensures in
     let a = c.args in
     mark_made a.n a.c a.b.now a.x (finds c.slot_in-i.ensures) c.if-i-c.true _ c.event-e.ensures
-    c.links-o.ensures (nodes_in _ _ (range (goal.at.returns-then-stops c).Then-i-c).0 (range (goal.at.returns-then-stops c).Then-i-c).1 c.nodes-k.ensures) c.set_saved.ensures
-    (c.set_number.ensures.0 (omega arith)) c.unlink.ensures (prev_of_lem _ _ c.prev-a.ensures (ring (goal.at.returns-then-stops c).After-b-then-t-n-3-1))
-    c.insert_after.ensures (log_in _ _ (range (goal.at.returns-then-stops c).Then-i-c).0 (range (goal.at.returns-then-stops c).Then-i-c).1 c.log-l.ensures)
+    c.links-o.ensures (nodes_in _ _ (range).0 (range).1 c.nodes-k.ensures) c.set_saved.ensures
+    (c.set_number.ensures.0 (omega arith)) c.unlink.ensures (prev_of_lem _ _ c.prev-a.ensures (ring))
+    c.insert_after.ensures (log_in _ _ (range).0 (range).1 c.log-l.ensures)
     (filed_last _ _ _ _ _ _ _ c.prev-last.ensures c.stops.ensures c.if-stops.true c.insert_after-then-stops.ensures)
 
 pub returns-else-stops : goal.returns-else-stops
 returns-else-stops c =
+    let range : (c.args.n ≤ 256) × (c.args.c ≤ 4096) = found_range _ _ c.args.b.now c.args.x (finds c.slot_in-i.ensures) c.if-i-c.true in
+    let ring : c.run_ring.result ≡ run_ring c.args.n c.event-e.result.target = run_ring_in _ c.args.c (range).0 _ c.if-t-n.true c.run_ring.ensures in
     let a = c.args in
     mark_made a.n a.c a.b.now a.x (finds c.slot_in-i.ensures) c.if-i-c.true _ c.event-e.ensures
-    c.links-o.ensures (nodes_in _ _ (range (goal.at.returns-else-stops c).Then-i-c).0 (range (goal.at.returns-else-stops c).Then-i-c).1 c.nodes-k.ensures) c.set_saved.ensures
-    (c.set_number.ensures.0 (omega arith)) c.unlink.ensures (prev_of_lem _ _ c.prev-a.ensures (ring (goal.at.returns-else-stops c).After-b-then-t-n-3-1))
-    c.insert_after.ensures (log_in _ _ (range (goal.at.returns-else-stops c).Then-i-c).0 (range (goal.at.returns-else-stops c).Then-i-c).1 c.log-l.ensures) c.file.ensures
+    c.links-o.ensures (nodes_in _ _ (range).0 (range).1 c.nodes-k.ensures) c.set_saved.ensures
+    (c.set_number.ensures.0 (omega arith)) c.unlink.ensures (prev_of_lem _ _ c.prev-a.ensures (ring))
+    c.insert_after.ensures (log_in _ _ (range).0 (range).1 c.log-l.ensures) c.file.ensures
 
 pub shape_of-b-else-stops : goal.shape_of-b-else-stops
 shape_of-b-else-stops c =
@@ -59,7 +50,11 @@ returns-else-i-c c =
     mark_none a.n a.c a.b.now a.x (λ _. refused_slot a.n a.c a.b.now a.x (finds c.slot_in-i.ensures) c.if-i-c.false) _
 
 pub stops-requires : goal.stops-requires
-stops-requires c = (range (goal.at.stops-requires c).Then-i-c).0
+stops-requires c =
+    let range : (c.args.n ≤ 256) × (c.args.c ≤ 4096) = found_range _ _ c.args.b.now c.args.x (finds c.slot_in-i.ensures) c.if-i-c.true in
+    (range).0
 
 pub file-requires : goal.file-requires
-file-requires c = (range (goal.at.file-requires c).Then-i-c).0
+file-requires c =
+    let range : (c.args.n ≤ 256) × (c.args.c ≤ 4096) = found_range _ _ c.args.b.now c.args.x (finds c.slot_in-i.ensures) c.if-i-c.true in
+    (range).0

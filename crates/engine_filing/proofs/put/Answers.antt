@@ -7,21 +7,17 @@ use Rattle.engine_index.proofs.Places.Range.{nodes_in}
 use Rattle.engine_index.proofs.Places.FoundSlot.{finds}
 use Rattle.engine_filing.proofs.Putting.{next_at, put_done, put_none}
 use Rattle.engine_filing.proofs.put.Goals as goal
-use Rattle.engine_filing.proofs.put.Goals.{Then-spare-c}
-
--- the numbers are in range where a slot is found
-range : (c : Then-spare-c) → (c.args.n ≤ 256) × (c.args.c ≤ 4096)
-range c = let s = ((finds c.slot_in-spare.ensures).sound c.if-spare-c.true).0 in (s.stations, s.capacity)
 
 -- ---- the event is filed after the last one, or by a walk
 pub returns-then-stops : goal.returns-then-stops
 returns-then-stops c =
+    let range : (c.args.n ≤ 256) × (c.args.c ≤ 4096) = let s = ((finds c.slot_in-spare.ensures).sound c.if-spare-c.true).0 in (s.stations, s.capacity) in
     let a = c.args in
     let free = c.first_free-x.ensures in
     let slot = c.slot_in-spare.ensures in
     put_done a.n a.c a.b.now a.e free slot c.if-spare-c.true
     (put_made a.n a.c a.b.now a.e c.links-o.ensures
-    (nodes_in _ _ (range (goal.at.returns-then-stops c).Then-spare-c).0 (range (goal.at.returns-then-stops c).Then-spare-c).1 c.nodes-k.ensures)
+    (nodes_in _ _ (range).0 (range).1 c.nodes-k.ensures)
     (next_at a.n a.c a.b.now a.e free slot c.if-spare-c.true c.links-o.ensures) (finds slot) c.if-spare-c.true
     c.unlink.ensures c.set_event.ensures (c.set_number.ensures.0 (omega arith))
     (filed_last _ _ _ _ _ _ _ c.prev-last.ensures c.stops.ensures
@@ -29,12 +25,13 @@ returns-then-stops c =
 
 pub returns-then-spare-c : goal.returns-then-spare-c
 returns-then-spare-c c =
+    let range : (c.args.n ≤ 256) × (c.args.c ≤ 4096) = let s = ((finds c.slot_in-spare.ensures).sound c.if-spare-c.true).0 in (s.stations, s.capacity) in
     let a = c.args in
     let free = c.first_free-x.ensures in
     let slot = c.slot_in-spare.ensures in
     put_done a.n a.c a.b.now a.e free slot c.if-spare-c.true
     (put_made a.n a.c a.b.now a.e c.links-o.ensures
-    (nodes_in _ _ (range (goal.at.returns-then-spare-c c).Then-spare-c).0 (range (goal.at.returns-then-spare-c c).Then-spare-c).1 c.nodes-k.ensures)
+    (nodes_in _ _ (range).0 (range).1 c.nodes-k.ensures)
     (next_at a.n a.c a.b.now a.e free slot c.if-spare-c.true c.links-o.ensures) (finds slot) c.if-spare-c.true
     c.unlink.ensures c.set_event.ensures (c.set_number.ensures.0 (omega arith)) c.file.ensures)
 
@@ -45,7 +42,11 @@ returns c =
     put_none a.n a.c a.b.now a.e c.first_free-x.ensures c.slot_in-spare.ensures c.if-spare-c.false
 
 pub stops-requires : goal.stops-requires
-stops-requires c = (range (goal.at.stops-requires c).Then-spare-c).0
+stops-requires c =
+    let range : (c.args.n ≤ 256) × (c.args.c ≤ 4096) = let s = ((finds c.slot_in-spare.ensures).sound c.if-spare-c.true).0 in (s.stations, s.capacity) in
+    (range).0
 
 pub file-requires : goal.file-requires
-file-requires c = (range (goal.at.file-requires c).Then-spare-c).0
+file-requires c =
+    let range : (c.args.n ≤ 256) × (c.args.c ≤ 4096) = let s = ((finds c.slot_in-spare.ensures).sound c.if-spare-c.true).0 in (s.stations, s.capacity) in
+    (range).0

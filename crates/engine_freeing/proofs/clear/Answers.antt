@@ -5,15 +5,11 @@ use borrow.Author.Rules.{rules}
 use Rattle.engine_freeing.proofs.Clearing.{clear_made, clear_none}
 use Rattle.engine_index.proofs.Places.Range.{range_true, log_in, nodes_in, node_in}
 use Rattle.engine_freeing.proofs.clear.Goals as goal
-use Rattle.engine_freeing.proofs.clear.Goals.{Then-in_range}
-
--- the numbers are in range
-range : (c : Then-in_range) → (c.args.n ≤ 256) × (c.args.c ≤ 4096)
-range c = range_true _ _ c.in_range.ensures c.if-in_range.true
 
 pub returns-then-in_range : goal.returns-then-in_range
 returns-then-in_range c =
-    let r = range (goal.at.returns-then-in_range c).Then-in_range in
+    let range : (c.args.n ≤ 256) × (c.args.c ≤ 4096) = range_true _ _ c.in_range.ensures c.if-in_range.true in
+    let r = range in
     clear_made c.args.n c.args.c _ c.links-o.ensures (nodes_in _ _ r.0 r.1 c.nodes-k.ensures)
     (node_in _ _ r.0 r.1 0 (omega arith) c.node_of.ensures) c.empty_rings.ensures
     c.free_slots.ensures (log_in _ _ r.0 r.1 c.log.ensures) c.make_empty.ensures
@@ -22,4 +18,6 @@ pub returns-else-in_range : goal.returns-else-in_range
 returns-else-in_range c = clear_none c.args.n c.args.c _ c.in_range.ensures c.if-in_range.false
 
 pub free_slots-requires : goal.free_slots-requires
-free_slots-requires c = range (goal.at.free_slots-requires c).Then-in_range
+free_slots-requires c =
+    let range : (c.args.n ≤ 256) × (c.args.c ≤ 4096) = range_true _ _ c.in_range.ensures c.if-in_range.true in
+    range

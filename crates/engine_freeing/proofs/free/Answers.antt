@@ -9,16 +9,12 @@ use borrow.Author.Rules.{rules}
 use Rattle.engine_index.proofs.Changes.FromCalls.{free_made, link_of}
 use Rattle.engine_index.proofs.Places.Refusals.{found_range, refused_slot}
 use Rattle.engine_freeing.proofs.free.Goals as goal
-use Rattle.engine_freeing.proofs.free.Goals.{Then-held-c}
-
--- the numbers are in range where a slot is found
-range : (c : Then-held-c) → (c.args.n ≤ 256) × (c.args.c ≤ 4096)
-range c = found_range _ _ c.args.b.now c.args.x (finds c.slot_in-held.ensures) c.if-held-c.true
 
 pub returns-then-held-c : goal.returns-then-held-c
 returns-then-held-c c =
+    let range : (c.args.n ≤ 256) × (c.args.c ≤ 4096) = found_range _ _ c.args.b.now c.args.x (finds c.slot_in-held.ensures) c.if-held-c.true in
     let a = c.args in
-    let r = range (goal.at.returns-then-held-c c).Then-held-c in
+    let r = range in
     free_made a.n a.c a.b.now a.x (finds c.slot_in-held.ensures) c.if-held-c.true c.links-o.ensures
     (nodes_in _ _ r.0 r.1 c.nodes-k.ensures) (c.set_number.ensures.0 (omega arith)) c.unlink.ensures
     (link_of _ _ _ _ c.insert_after.ensures (free_ring_in _ a.c r.0 c.free_ring.ensures))

@@ -10,15 +10,6 @@ use Rattle.plan_format.specs.Reading.{judging}
 use Rattle.engine_opening.proofs.Choice.{passes}
 use Rattle.engine_opening.proofs.Opening.{few_stations, unread, unchosen, opened_call}
 use Rattle.engine_opening.proofs.open.Goals as goal
-use Rattle.engine_opening.proofs.open.Goals.{In-Stations-2}
-
--- the plan has so many stations
-stations : (c : In-Stations-2) → judging c.args.plan.now ≡ Stations c.in-Stations.n
-stations c = sym c.judge-a.ensures.answer ∙ c.in-Stations.is
-
--- at most 256
-at_most : (c : In-Stations-2) → c.in-Stations.n ≤ 256
-at_most c = few_stations _ c.judge-a.ensures.answer c.in-Stations.is
 
 -- ---- refusals
 pub returns-in-Refused : goal.returns-in-Refused
@@ -26,7 +17,8 @@ returns-in-Refused c = unread _ (sym c.in-Refused.is ∙ c.judge-a.ensures.answe
 
 pub returns-in-Refused-r : goal.returns-in-Refused-r
 returns-in-Refused-r c =
-    unchosen _ (stations (goal.at.returns-in-Refused-r c).In-Stations-2) c.judge_choice-r.ensures c.in-Refused-r.is
+    let stations : judging c.args.plan.now ≡ Stations c.in-Stations.n = sym c.judge-a.ensures.answer ∙ c.in-Stations.is in
+    unchosen _ (stations) c.judge_choice-r.ensures c.in-Refused-r.is
 
 -- ---- the line is opened
 pub overflow_cast-capacity : goal.overflow_cast-capacity
@@ -37,15 +29,22 @@ overflow_cast-capacity c =
 
 pub returns-in-Done : goal.returns-in-Done
 returns-in-Done c =
-    opened_call (stations (goal.at.returns-in-Done c).In-Stations-2) c.judge_choice-r.ensures c.in-Done.is c.begin_stations.ensures
+    let stations : judging c.args.plan.now ≡ Stations c.in-Stations.n = sym c.judge-a.ensures.answer ∙ c.in-Stations.is in
+    opened_call (stations) c.judge_choice-r.ensures c.in-Done.is c.begin_stations.ensures
     (c.set_header.ensures.0 (lit< tt)) (c.set_header-in-Done.ensures.0 (lit< tt)) (c.set_header-in-Done-2.ensures.0 (lit< tt))
     (c.set_header-in-Done-3.ensures.0 (lit< tt)) c.clear.ensures.frame c.clear.ensures.clears
 
 pub judge_choice-r-requires : goal.judge_choice-r-requires
-judge_choice-r-requires c = at_most (goal.at.judge_choice-r-requires c).In-Stations-2
+judge_choice-r-requires c =
+    let at_most : c.in-Stations.n ≤ 256 = few_stations _ c.judge-a.ensures.answer c.in-Stations.is in
+    at_most
 
 pub overflow_cast-m : goal.overflow_cast-m
-overflow_cast-m c = omega (arith, at_most (goal.at.overflow_cast-m c).In-Stations-2)
+overflow_cast-m c =
+    let at_most : c.in-Stations.n ≤ 256 = few_stations _ c.judge-a.ensures.answer c.in-Stations.is in
+    omega (arith, at_most)
 
 pub begin_stations-requires : goal.begin_stations-requires
-begin_stations-requires c = at_most (goal.at.begin_stations-requires c).In-Stations-2
+begin_stations-requires c =
+    let at_most : c.in-Stations.n ≤ 256 = few_stations _ c.judge-a.ensures.answer c.in-Stations.is in
+    at_most

@@ -8,12 +8,6 @@ use Rattle.engine_promises.proofs.ShortBuffer.{unfit_judged}
 use Rattle.engine_posting.proofs.PostJudging.{post_refused, station_out, matter_unsuited, time_late, time_early, number_over, none_free, post_judged}
 use borrow.Author.Rules.{rules}
 use Rattle.engine_posting.proofs.judge_post.Goals as goal
-use Rattle.engine_posting.proofs.judge_post.Goals.{In-Means-2}
-
--- the kind and the value mean the matter
-meaning : (c : In-Means-2)
-    → matter_of c.stations-n.result c.args.kind c.args.value ≡ Means c.in-Means.m
-meaning c = sym c.matter_of.ensures.means ∙ c.in-Means.is
 
 -- ---- refusals
 pub returns-then-not-fits : goal.returns-then-not-fits
@@ -34,31 +28,36 @@ returns-in_default c =
 
 pub returns-then-time-gt-HORIZON : goal.returns-then-time-gt-HORIZON
 returns-then-time-gt-HORIZON c =
+    let meaning : matter_of c.stations-n.result c.args.kind c.args.value ≡ Means c.in-Means.m = sym c.matter_of.ensures.means ∙ c.in-Means.is in
     post_refused _
-    (time_late c.stations-n.ensures c.capacity-c.ensures _ _ _ _ c.if-n-station.false _ (meaning (goal.at.returns-then-time-gt-HORIZON c).In-Means-2) c.if-time-gt-HORIZON.true)
+    (time_late c.stations-n.ensures c.capacity-c.ensures _ _ _ _ c.if-n-station.false _ (meaning) c.if-time-gt-HORIZON.true)
 
 pub returns-then-time-header : goal.returns-then-time-header
 returns-then-time-header c =
+    let meaning : matter_of c.stations-n.result c.args.kind c.args.value ≡ Means c.in-Means.m = sym c.matter_of.ensures.means ∙ c.in-Means.is in
     post_refused _
-    (time_early c.stations-n.ensures c.capacity-c.ensures _ _ _ _ c.if-n-station.false _ (meaning (goal.at.returns-then-time-header c).In-Means-2) c.if-time-gt-HORIZON.false
+    (time_early c.stations-n.ensures c.capacity-c.ensures _ _ _ _ c.if-n-station.false _ (meaning) c.if-time-gt-HORIZON.false
     (c.header.ensures.0 (omega arith)) c.if-time-header.true)
 
 pub returns-then-number-gt4294967295 : goal.returns-then-number-gt4294967295
 returns-then-number-gt4294967295 c =
+    let meaning : matter_of c.stations-n.result c.args.kind c.args.value ≡ Means c.in-Means.m = sym c.matter_of.ensures.means ∙ c.in-Means.is in
     post_refused _
-    (number_over c.stations-n.ensures c.capacity-c.ensures _ _ _ _ c.if-n-station.false _ (meaning (goal.at.returns-then-number-gt4294967295 c).In-Means-2) c.if-time-gt-HORIZON.false
+    (number_over c.stations-n.ensures c.capacity-c.ensures _ _ _ _ c.if-n-station.false _ (meaning) c.if-time-gt-HORIZON.false
     (c.header.ensures.0 (omega arith)) c.if-time-header.false (c.header-number.ensures.0 (omega arith)) c.if-number-gt4294967295.true)
 
 pub returns-then-full : goal.returns-then-full
 returns-then-full c =
+    let meaning : matter_of c.stations-n.result c.args.kind c.args.value ≡ Means c.in-Means.m = sym c.matter_of.ensures.means ∙ c.in-Means.is in
     post_refused _
-    (none_free c.stations-n.ensures c.capacity-c.ensures _ _ _ _ c.if-n-station.false _ (meaning (goal.at.returns-then-full c).In-Means-2) c.if-time-gt-HORIZON.false
+    (none_free c.stations-n.ensures c.capacity-c.ensures _ _ _ _ c.if-n-station.false _ (meaning) c.if-time-gt-HORIZON.false
     (c.header.ensures.0 (omega arith)) c.if-time-header.false (c.header-number.ensures.0 (omega arith))
     c.if-number-gt4294967295.false (rw c.if-full.true at c.full.ensures))
 
 -- ---- accepted
 pub returns : goal.returns
 returns c =
-    post_judged c.stations-n.ensures c.capacity-c.ensures _ _ _ _ c.if-n-station.false _ (meaning (goal.at.returns c).In-Means-2) c.if-time-gt-HORIZON.false
+    let meaning : matter_of c.stations-n.result c.args.kind c.args.value ≡ Means c.in-Means.m = sym c.matter_of.ensures.means ∙ c.in-Means.is in
+    post_judged c.stations-n.ensures c.capacity-c.ensures _ _ _ _ c.if-n-station.false _ (meaning) c.if-time-gt-HORIZON.false
     (c.header.ensures.0 (omega arith)) c.if-time-header.false (c.header-number.ensures.0 (omega arith))
     c.if-number-gt4294967295.false (rw c.if-full.false at c.full.ensures)

@@ -7,16 +7,6 @@ use Rattle.engine_running.proofs.RunCalls.{too_short, no_station, none_waits, co
 use Rattle.engine_index.proofs.Places.FoundSlot.{finds}
 use borrow.Author.Rules.{rules}
 use Rattle.engine_running.proofs.judge_run.Goals as goal
-use Rattle.engine_running.proofs.judge_run.Goals.{After-run_event}
-
--- what the run has read
-reads : (c : After-run_event)
-    → 
-    let a = c.args in
-    Reads a.n a.c a.s c.first_unrun-x.result a.b.now c.event-e.result c.run_event.result
-reads c =
-    reads_of c.if-n-s.false c.first_unrun-x.ensures (finds c.slot_in-i.ensures) c.if-c-i.false
-    c.event-e.ensures c.config.ensures c.state.ensures c.run_event.ensures
 
 -- ---- refusals
 pub returns-then-not-fits : goal.returns-then-not-fits
@@ -30,18 +20,22 @@ returns-then-c-i c =
     none_waits c.if-n-s.false c.first_unrun-x.ensures (finds c.slot_in-i.ensures) c.if-c-i.true
 
 pub returns-in_default : goal.returns-in_default
-returns-in_default c = counts_pass (reads (goal.at.returns-in_default c).After-run_event) c.in_default.is
+returns-in_default c =
+    let reads : let a = c.args in Reads a.n a.c a.s c.first_unrun-x.result a.b.now c.event-e.result c.run_event.result = reads_of c.if-n-s.false c.first_unrun-x.ensures (finds c.slot_in-i.ensures) c.if-c-i.false c.event-e.ensures c.config.ensures c.state.ensures c.run_event.ensures in
+    counts_pass (reads) c.in_default.is
 
 pub overflow_add-sends : goal.overflow_add-sends
 overflow_add-sends c = omega (arith, two_sends c.in-Done.is c.sends.ensures c.sends-2.ensures)
 
 pub returns-then-free_places-sends : goal.returns-then-free_places-sends
 returns-then-free_places-sends c =
-    places_few (reads (goal.at.returns-then-free_places-sends c).After-run_event) _ c.in-Done.is c.free_places.ensures
+    let reads : let a = c.args in Reads a.n a.c a.s c.first_unrun-x.result a.b.now c.event-e.result c.run_event.result = reads_of c.if-n-s.false c.first_unrun-x.ensures (finds c.slot_in-i.ensures) c.if-c-i.false c.event-e.ensures c.config.ensures c.state.ensures c.run_event.ensures in
+    places_few (reads) _ c.in-Done.is c.free_places.ensures
     (omega (arith, c.if-free_places-sends.true, c.sends.ensures, c.sends-2.ensures))
 
 -- ---- accepted
 pub returns : goal.returns
 returns c =
-    run_judged (reads (goal.at.returns c).After-run_event) _ c.in-Done.is c.free_places.ensures
+    let reads : let a = c.args in Reads a.n a.c a.s c.first_unrun-x.result a.b.now c.event-e.result c.run_event.result = reads_of c.if-n-s.false c.first_unrun-x.ensures (finds c.slot_in-i.ensures) c.if-c-i.false c.event-e.ensures c.config.ensures c.state.ensures c.run_event.ensures in
+    run_judged (reads) _ c.in-Done.is c.free_places.ensures
     (omega (arith, c.if-free_places-sends.false, c.sends.ensures, c.sends-2.ensures))

@@ -6,13 +6,6 @@ use borrow.Author.Tests.{lt-ltb, le-ltb}
 use Rattle.line.specs.Station.{parent_out, number_out}
 use borrow.Author.Rules.{rules}
 use Rattle.plan_format.proofs.number_out.Goals as goal
-use Rattle.plan_format.proofs.number_out.Goals.{Else-c-lt1-2}
-
--- the first three tests find nothing out of range
-first_three : (c : Else-c-lt1-2) → let a = c.args in
-    (parent_out a.station a.c.parent ≡ false) × ((ltb a.c.calm 1 ≡ false) × (ltb a.c.spring 1 ≡ false))
-first_three c =
-    (sym c.parent_out.ensures ∙ c.if-parent_out.false, (le-ltb _ _ c.if-c-lt1.false, le-ltb _ _ c.if-c-lt1-2.false))
 
 pub returns-then-parent_out : goal.returns-then-parent_out
 unfolding number_out
@@ -31,24 +24,28 @@ returns-then-c-lt1-2 c =
 pub returns-then-c-lt1-3 : goal.returns-then-c-lt1-3
 unfolding number_out
 returns-then-c-lt1-3 c =
-    let t = first_three (goal.at.returns-then-c-lt1-3 c).Else-c-lt1-2 in
+    let first_three : let a = c.args in (parent_out a.station a.c.parent ≡ false) × ((ltb a.c.calm 1 ≡ false) × (ltb a.c.spring 1 ≡ false)) = (sym c.parent_out.ensures ∙ c.if-parent_out.false, (le-ltb _ _ c.if-c-lt1.false, le-ltb _ _ c.if-c-lt1-2.false)) in
+    let t = first_three in
     simp (t.0, t.1.0, t.1.1, lt-ltb _ _ c.if-c-lt1-3.true)
 
 pub returns-then-c-gt2147483646 : goal.returns-then-c-gt2147483646
 unfolding number_out
 returns-then-c-gt2147483646 c =
-    let t = first_three (goal.at.returns-then-c-gt2147483646 c).Else-c-lt1-2 in
+    let first_three : let a = c.args in (parent_out a.station a.c.parent ≡ false) × ((ltb a.c.calm 1 ≡ false) × (ltb a.c.spring 1 ≡ false)) = (sym c.parent_out.ensures ∙ c.if-parent_out.false, (le-ltb _ _ c.if-c-lt1.false, le-ltb _ _ c.if-c-lt1-2.false)) in
+    let t = first_three in
     simp (t.0, t.1.0, t.1.1, le-ltb _ _ c.if-c-lt1-3.false, lt-ltb _ _ c.if-c-gt2147483646.true)
 
 pub returns-then-c-lt1-4 : goal.returns-then-c-lt1-4
 unfolding number_out
 returns-then-c-lt1-4 c =
-    let t = first_three (goal.at.returns-then-c-lt1-4 c).Else-c-lt1-2 in
+    let first_three : let a = c.args in (parent_out a.station a.c.parent ≡ false) × ((ltb a.c.calm 1 ≡ false) × (ltb a.c.spring 1 ≡ false)) = (sym c.parent_out.ensures ∙ c.if-parent_out.false, (le-ltb _ _ c.if-c-lt1.false, le-ltb _ _ c.if-c-lt1-2.false)) in
+    let t = first_three in
     simp
     (t.0, t.1.0, t.1.1, le-ltb _ _ c.if-c-lt1-3.false, le-ltb _ _ c.if-c-gt2147483646.false, lt-ltb _ _ c.if-c-lt1-4.true)
 
 pub returns : goal.returns
 unfolding number_out
 returns c =
-    let t = first_three (goal.at.returns c).Else-c-lt1-2 in
+    let first_three : let a = c.args in (parent_out a.station a.c.parent ≡ false) × ((ltb a.c.calm 1 ≡ false) × (ltb a.c.spring 1 ≡ false)) = (sym c.parent_out.ensures ∙ c.if-parent_out.false, (le-ltb _ _ c.if-c-lt1.false, le-ltb _ _ c.if-c-lt1-2.false)) in
+    let t = first_three in
     rw (t.0, t.1.0, t.1.1, le-ltb _ _ c.if-c-lt1-3.false, le-ltb _ _ c.if-c-gt2147483646.false, le-ltb _ _ c.if-c-lt1-4.false)

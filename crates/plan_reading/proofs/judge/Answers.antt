@@ -19,7 +19,6 @@ use Rattle.plan_format.proofs.Accepted.{shaped}
 use Rattle.plan_reading.proofs.Promised.{judges}
 use Rattle.plan_reading.proofs.Judging.{judged}
 use Rattle.plan_reading.proofs.judge.Goals as goal
-use Rattle.plan_reading.proofs.judge.Goals.{Else-begin_of-plan, Else-field-n, Else-pair-n, Else-shape_wrong}
 
 -- ---- the answers of the tests left
 abbrev by_names : List ℕ → ℕ → ReadAnswer
@@ -31,25 +30,11 @@ by_fields p n = cond (ltb (lowest (field_wrong p) n) n) (Refused (Field (lowest 
 abbrev by_end : List ℕ → ℕ → ReadAnswer
 by_end p n = cond (ltb (begins p n) (length p)) (Refused Trailing) (by_fields p n)
 
--- ---- the tests that find no fault
-abbrev plan : Else-shape_wrong → List ℕ
-plan c = c.args.plan.now
-
-shape : (c : Else-shape_wrong) → shape_wrong (plan c) ≡ false
-shape c = sym c.shape_wrong.ensures ∙ c.if-shape_wrong.false
-
-pairs : (c : Else-pair-n) → judging (plan c.before.before.before) ≡ by_end (plan c.before.before.before) c.load16-n.result
-pairs c = rw (judged _ _ c.load16-n.ensures, shape c.before.before.before, ← c.lowest_pair-pair.ensures, le-ltb _ _ c.if-pair-n.false)
-
-ends : (c : Else-begin_of-plan) → judging (plan c.before.before.before.before.before) ≡ by_fields (plan c.before.before.before.before.before) c.load16-n.result
-ends c = rw (pairs c.before.before, ← c.begin_of.ensures, le-ltb _ _ c.if-begin_of-plan.false)
-
-fields : (c : Else-field-n) → judging (plan c.before.before.before.before.before.before.before) ≡ by_names (plan c.before.before.before.before.before.before.before) c.load16-n.result
-fields c = rw (ends c.before.before, ← c.lowest_field-field.ensures, le-ltb _ _ c.if-field-n.false)
-
 pub lowest_name-name-requires : goal.lowest_name-name-requires
 lowest_name-name-requires c =
-    let m = shaped (plan (goal.at.lowest_name-name-requires c).Else-shape_wrong) (shape (goal.at.lowest_name-name-requires c).Else-shape_wrong) in
+    let plan : List ℕ = c.args.plan.now in
+    let shape : shape_wrong (plan) ≡ false = sym c.shape_wrong.ensures ∙ c.if-shape_wrong.false in
+    let m = shaped (plan) (shape) in
     let n = c.load16-n.ensures in
     let k = c.lowest_pair-pair.ensures in
     (omega arith, lowest_full _ _ (omega (arith, c.if-pair-n.false)))
@@ -61,16 +46,39 @@ returns-then-shape_wrong c = judges (rw (sym c.shape_wrong.ensures ∙ c.if-shap
 
 pub returns-then-pair-n : goal.returns-then-pair-n
 returns-then-pair-n c =
-    judges (rw (judged _ _ c.load16-n.ensures, shape (goal.at.returns-then-pair-n c).Else-shape_wrong, ← c.lowest_pair-pair.ensures, lt-ltb _ _ c.if-pair-n.true))
+    let plan : List ℕ = c.args.plan.now in
+    let shape : shape_wrong (plan) ≡ false = sym c.shape_wrong.ensures ∙ c.if-shape_wrong.false in
+    judges (rw (judged _ _ c.load16-n.ensures, shape, ← c.lowest_pair-pair.ensures, lt-ltb _ _ c.if-pair-n.true))
 
 pub returns-then-begin_of-plan : goal.returns-then-begin_of-plan
-returns-then-begin_of-plan c = judges (rw (pairs (goal.at.returns-then-begin_of-plan c).Else-pair-n, ← c.begin_of.ensures, lt-ltb _ _ c.if-begin_of-plan.true))
+returns-then-begin_of-plan c =
+    let plan : List ℕ = c.args.plan.now in
+    let shape : shape_wrong (plan) ≡ false = sym c.shape_wrong.ensures ∙ c.if-shape_wrong.false in
+    let pairs : judging (plan) ≡ by_end (plan) c.load16-n.result = rw (judged _ _ c.load16-n.ensures, shape, ← c.lowest_pair-pair.ensures, le-ltb _ _ c.if-pair-n.false) in
+    judges (rw (pairs, ← c.begin_of.ensures, lt-ltb _ _ c.if-begin_of-plan.true))
 
 pub returns-then-field-n : goal.returns-then-field-n
-returns-then-field-n c = judges (rw (ends (goal.at.returns-then-field-n c).Else-begin_of-plan, ← c.lowest_field-field.ensures, lt-ltb _ _ c.if-field-n.true))
+returns-then-field-n c =
+    let plan : List ℕ = c.args.plan.now in
+    let shape : shape_wrong (plan) ≡ false = sym c.shape_wrong.ensures ∙ c.if-shape_wrong.false in
+    let pairs : judging (plan) ≡ by_end (plan) c.load16-n.result = rw (judged _ _ c.load16-n.ensures, shape, ← c.lowest_pair-pair.ensures, le-ltb _ _ c.if-pair-n.false) in
+    let ends : judging (plan) ≡ by_fields (plan) c.load16-n.result = rw (pairs, ← c.begin_of.ensures, le-ltb _ _ c.if-begin_of-plan.false) in
+    judges (rw (ends, ← c.lowest_field-field.ensures, lt-ltb _ _ c.if-field-n.true))
 
 pub returns-then-name-n : goal.returns-then-name-n
-returns-then-name-n c = judges (rw (fields (goal.at.returns-then-name-n c).Else-field-n, ← c.lowest_name-name.ensures, lt-ltb _ _ c.if-name-n.true))
+returns-then-name-n c =
+    let plan : List ℕ = c.args.plan.now in
+    let shape : shape_wrong (plan) ≡ false = sym c.shape_wrong.ensures ∙ c.if-shape_wrong.false in
+    let pairs : judging (plan) ≡ by_end (plan) c.load16-n.result = rw (judged _ _ c.load16-n.ensures, shape, ← c.lowest_pair-pair.ensures, le-ltb _ _ c.if-pair-n.false) in
+    let ends : judging (plan) ≡ by_fields (plan) c.load16-n.result = rw (pairs, ← c.begin_of.ensures, le-ltb _ _ c.if-begin_of-plan.false) in
+    let fields : judging (plan) ≡ by_names (plan) c.load16-n.result = rw (ends, ← c.lowest_field-field.ensures, le-ltb _ _ c.if-field-n.false) in
+    judges (rw (fields, ← c.lowest_name-name.ensures, lt-ltb _ _ c.if-name-n.true))
 
 pub returns : goal.returns
-returns c = judges (rw (fields (goal.at.returns c).Else-field-n, ← c.lowest_name-name.ensures, le-ltb _ _ c.if-name-n.false))
+returns c =
+    let plan : List ℕ = c.args.plan.now in
+    let shape : shape_wrong (plan) ≡ false = sym c.shape_wrong.ensures ∙ c.if-shape_wrong.false in
+    let pairs : judging (plan) ≡ by_end (plan) c.load16-n.result = rw (judged _ _ c.load16-n.ensures, shape, ← c.lowest_pair-pair.ensures, le-ltb _ _ c.if-pair-n.false) in
+    let ends : judging (plan) ≡ by_fields (plan) c.load16-n.result = rw (pairs, ← c.begin_of.ensures, le-ltb _ _ c.if-begin_of-plan.false) in
+    let fields : judging (plan) ≡ by_names (plan) c.load16-n.result = rw (ends, ← c.lowest_field-field.ensures, le-ltb _ _ c.if-field-n.false) in
+    judges (rw (fields, ← c.lowest_name-name.ensures, le-ltb _ _ c.if-name-n.false))

@@ -7,17 +7,16 @@ use Rattle.plan_format.specs.declared.ReadAnswer.TheVariants.{Stations}
 use borrow.Author.Rules.{rules}
 use Rattle.plan_reading.proofs.Promised.{judges_in}
 use Rattle.plan_reading.proofs.judge_in.Goals as goal
-use Rattle.plan_reading.proofs.judge_in.Goals.{In-Stations-2}
-
--- the plan is accepted
-accepted : (c : In-Stations-2) → Stations c.in-Stations.n ≡ judging c.args.plan.now
-accepted c = sym c.in-Stations.is ∙ c.judge-a.ensures.answer
 
 pub returns-then-room-n : goal.returns-then-room-n
-returns-then-room-n c = judges_in (rw (reading_in, ← accepted (goal.at.returns-then-room-n c).In-Stations-2, lt-ltb _ _ c.if-room-n.true))
+returns-then-room-n c =
+    let accepted : Stations c.in-Stations.n ≡ judging c.args.plan.now = sym c.in-Stations.is ∙ c.judge-a.ensures.answer in
+    judges_in (rw (reading_in, ← accepted, lt-ltb _ _ c.if-room-n.true))
 
 pub returns-else-room-n : goal.returns-else-room-n
-returns-else-room-n c = judges_in (rw (reading_in, ← accepted (goal.at.returns-else-room-n c).In-Stations-2, le-ltb _ _ c.if-room-n.false))
+returns-else-room-n c =
+    let accepted : Stations c.in-Stations.n ≡ judging c.args.plan.now = sym c.in-Stations.is ∙ c.judge-a.ensures.answer in
+    judges_in (rw (reading_in, ← accepted, le-ltb _ _ c.if-room-n.false))
 
 pub returns-in-Refused : goal.returns-in-Refused
 returns-in-Refused c =

@@ -7,18 +7,16 @@ use Rattle.plan_format.specs.Plan.{padded, station_at}
 use Rattle.plan_format.proofs.Pairs.{PairRight, pair_right}
 use borrow.Author.Rules.{rules}
 use Rattle.plan_reading.proofs.station_at.Goals as goal
-use Rattle.plan_reading.proofs.station_at.Goals.{After-length_of-len}
-
--- the pair is right
-right : (c : After-length_of-len) → PairRight c.args.plan.now c.args.k
-right c = pair_right _ _ c.requires.1
 
 pub overflow_sub-len : goal.overflow_sub-len
-overflow_sub-len c = let r = right (goal.at.overflow_sub-len c).After-length_of-len in let l = c.length_of-len.ensures.0 in omega arith
+overflow_sub-len c =
+    let right : PairRight c.args.plan.now c.args.k = pair_right _ _ c.requires.1 in
+    let r = right in let l = c.length_of-len.ensures.0 in omega arith
 
 pub name_at-name-requires : goal.name_at-name-requires
 name_at-name-requires c =
-    let r = right (goal.at.name_at-name-requires c).After-length_of-len in
+    let right : PairRight c.args.plan.now c.args.k = pair_right _ _ c.requires.1 in
+    let r = right in
     let a = c.offset_of-at.ensures.0 in
     let l = c.length_of-len.ensures.0 in
     (omega arith, omega arith)

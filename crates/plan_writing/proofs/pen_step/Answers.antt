@@ -6,22 +6,23 @@ use mathlib.Core.Path.{◌≡◌, sym, ◌∙◌}
 use mathlib.Core.Bool.{true}
 use borrow.Author.Rules.{rules}
 use Rattle.plan_writing.proofs.pen_step.Goals as goal
-use Rattle.plan_writing.proofs.pen_step.Goals.{Then-is_ready}
-
--- the pen is ready
-tested : (c : Then-is_ready) → ready c.args.p ≡ true
-tested c = sym c.is_ready.ensures ∙ c.if-is_ready.true
 
 pub returns-then-is_ready : goal.returns-then-is_ready
 unfolding stepped
-returns-then-is_ready c = rw (tested (goal.at.returns-then-is_ready c).Then-is_ready, ← c.put_station.ensures, ← c.move_on.ensures)
+returns-then-is_ready c =
+    let tested : ready c.args.p ≡ true = sym c.is_ready.ensures ∙ c.if-is_ready.true in
+    rw (tested, ← c.put_station.ensures, ← c.move_on.ensures)
 
 pub returns : goal.returns
 unfolding stepped
 returns c = rw (sym c.is_ready.ensures ∙ c.if-is_ready.false)
 
 pub put_station-requires : goal.put_station-requires
-put_station-requires c = ready_true c.args.p (tested (goal.at.put_station-requires c).Then-is_ready)
+put_station-requires c =
+    let tested : ready c.args.p ≡ true = sym c.is_ready.ensures ∙ c.if-is_ready.true in
+    ready_true c.args.p (tested)
 
 pub move_on-requires : goal.move_on-requires
-move_on-requires c = let r = ready_true c.args.p (tested (goal.at.move_on-requires c).Then-is_ready) in (omega arith, omega arith)
+move_on-requires c =
+    let tested : ready c.args.p ≡ true = sym c.is_ready.ensures ∙ c.if-is_ready.true in
+    let r = ready_true c.args.p (tested) in (omega arith, omega arith)
