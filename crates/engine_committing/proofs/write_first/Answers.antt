@@ -13,18 +13,13 @@ use Rattle.engine_events.proofs.AfterHeader.{after_header_same, after_header_on}
 use Rattle.engine_promises.proofs.FoundSlots.{no_slot, slot_event}
 use Rattle.engine_committing.proofs.Writing.{Writing, writing_start, writing_on, writing_stops, writing_ends}
 use Rattle.engine_committing.proofs.write_first.Goals as goal
-use Rattle.engine_committing.proofs.write_first.Goals.{After-slot_in-i, At-loop-k}
-
--- the place of the loop, seen from its look into the log
-abbrev around : After-slot_in-i invariant-loop decreases-loop → At-loop-k invariant-loop decreases-loop
-around c = c.before.before.before.before.before
 
 pub loop-k-init : goal.loop-k-init
 loop-k-init c = (omega arith, refl, after_header_same _, writing_start _ _ _ _ _)
 
 pub returns-then-c-i : goal.returns-then-c-i
 returns-then-c-i c =
-    let inv = (around (goal.at.returns-then-c-i c).After-slot_in-i).loop.invariant in (
+    let inv = c.loop-k.invariant in (
       inv.2,
       writing_stops _ _ _ _ _ inv.3 c.loop-k-test.true (logged_at _ _ _ _ c.first_logged-x.ensures)
           (no_slot (finds c.slot_in-i.ensures) c.if-c-i.true),
@@ -32,7 +27,7 @@ returns-then-c-i c =
 
 pub loop-k-preserved : goal.loop-k-preserved
 loop-k-preserved c =
-    let inv = (around (goal.at.loop-k-preserved c).After-first_logged-x).loop.invariant in
+    let inv = c.loop-k.invariant in
     let more = c.loop-k-test.true in
     let gone = c.release.ensures in (
       omega (arith, more),

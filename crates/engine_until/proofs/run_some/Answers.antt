@@ -5,23 +5,18 @@ use borrow.Author.Rules.{rules}
 use lib.ListN.{length}
 use Rattle.engine_until.proofs.TurnLaws.{RunsSoFar, no_runs, more_runs, stretch_ran, stretch_refused}
 use Rattle.engine_until.proofs.run_some.Goals as goal
-use Rattle.engine_until.proofs.run_some.Goals.{After-run_lowest, At-loop-left}
-
--- the loop, seen from the call
-abbrev looped : After-run_lowest invariant-loop decreases-loop → At-loop-left invariant-loop decreases-loop
-looped c = c.before.before.before
 
 pub shape_of-b-in-Refused : goal.shape_of-b-in-Refused
 shape_of-b-in-Refused c =
-    c.run_lowest.auto.b ∙ (looped (goal.at.shape_of-b-in-Refused c).After-run_lowest).loop.invariant.0
+    c.run_lowest.auto.b ∙ c.loop-left.invariant.0
 
 pub returns-in-Refused : goal.returns-in-Refused
 returns-in-Refused c =
-    stretch_refused (looped (goal.at.returns-in-Refused c).After-run_lowest).loop.invariant.1 c.run_lowest.result c.run_lowest.ensures c.in-Refused.is
+    stretch_refused c.loop-left.invariant.1 c.run_lowest.result c.run_lowest.ensures c.in-Refused.is
 
 pub loop-left-preserved : goal.loop-left-preserved
 loop-left-preserved c =
-    let inv = (looped (goal.at.loop-left-preserved c).After-run_lowest).loop.invariant in
+    let inv = c.loop-left.invariant in
     (c.run_lowest.auto.b ∙ inv.0, more_runs inv.1 c.run_lowest.result c.run_lowest.ensures)
 
 pub loop-left-init : goal.loop-left-init

@@ -5,27 +5,22 @@ use borrow.Author.Rules.{rules}
 use lib.ListN.{length}
 use Rattle.engine_until.proofs.TurnLaws.{Turned, none_turned, turned_more, until_ends, turns_out}
 use Rattle.engine_until.proofs.run_until.Goals as goal
-use Rattle.engine_until.proofs.run_until.Goals.{After-turn, At-loop-left}
-
--- the loop, seen from the turn
-abbrev looped : After-turn invariant-loop decreases-loop → At-loop-left invariant-loop decreases-loop
-looped c = c.before.before.before.before
 
 pub shape_of-b-in-End : goal.shape_of-b-in-End
 shape_of-b-in-End c =
-    c.turn.auto.b ∙ (looped (goal.at.shape_of-b-in-End c).After-turn).loop.invariant.0
+    c.turn.auto.b ∙ c.loop-left.invariant.0
 
 pub shape_of-out-in-End : goal.shape_of-out-in-End
 shape_of-out-in-End c =
-    c.turn.auto.1.1.0 ∙ (looped (goal.at.shape_of-out-in-End c).After-turn).loop.invariant.1
+    c.turn.auto.1.1.0 ∙ c.loop-left.invariant.1
 
 pub returns-in-End : goal.returns-in-End
 returns-in-End c =
-    until_ends (looped (goal.at.returns-in-End c).After-turn).loop.invariant.2 c.turn.ensures c.in-End.is
+    until_ends c.loop-left.invariant.2 c.turn.ensures c.in-End.is
 
 pub loop-left-preserved : goal.loop-left-preserved
 loop-left-preserved c =
-    let inv = (looped (goal.at.loop-left-preserved c).After-turn).loop.invariant in
+    let inv = c.loop-left.invariant in
     (c.turn.auto.b ∙ inv.0, c.turn.auto.1.1.0 ∙ inv.1, turned_more (omega arith) inv.2 c.turn.ensures)
 
 pub returns : goal.returns

@@ -8,7 +8,6 @@ use Rattle.plan_format.specs.Plan.{name_wrong}
 use Rattle.plan_format.proofs.Lows.{lowest_zero, lowest_next, lowest_found, lowest_end, lowest_none}
 use Rattle.plan_format.proofs.Pairs.{name_is}
 use Rattle.plan_reading.proofs.lowest_name.Goals as goal
-use Rattle.plan_reading.proofs.lowest_name.Goals.{After-name_out}
 
 pub loop-k-init : goal.loop-k-init
 loop-k-init c = (omega arith, lowest_zero _)
@@ -16,16 +15,15 @@ loop-k-init c = (omega arith, lowest_zero _)
 pub station_at-requires : goal.station_at-requires
 station_at-requires c = (omega arith, lowest_none _ c.args.n _ c.requires.1 (omega arith))
 
--- the call's answer is the station's
-station : (c : After-name_out invariant-loop decreases-loop) → let l = c.before.before.before in
-    name_wrong l.before.before.args.plan.now l.loop.k ≡ c.name_out.result
-station c = name_is _ _ c.before.station-at.ensures c.name_out.ensures
-
 pub returns-then-name_out : goal.returns-then-name_out
-returns-then-name_out c = lowest_found _ _ _ c.loop-k.invariant.1 (station (goal.at.returns-then-name_out c).After-name_out ∙ c.if-name_out.true) (omega arith)
+returns-then-name_out c =
+    let station : name_wrong c.args.plan.now c.loop-k.k ≡ c.name_out.result = name_is _ _ c.station_at.ensures c.name_out.ensures in
+    lowest_found _ _ _ c.loop-k.invariant.1 (station ∙ c.if-name_out.true) (omega arith)
 
 pub loop-k-preserved : goal.loop-k-preserved
-loop-k-preserved c = (omega arith, lowest_next _ _ c.loop-k.invariant.1 (station (goal.at.loop-k-preserved c).After-name_out ∙ c.if-name_out.false))
+loop-k-preserved c =
+    let station : name_wrong c.args.plan.now c.loop-k.k ≡ c.name_out.result = name_is _ _ c.station_at.ensures c.name_out.ensures in
+    (omega arith, lowest_next _ _ c.loop-k.invariant.1 (station ∙ c.if-name_out.false))
 
 pub returns : goal.returns
 returns c = lowest_end _ _ _ c.loop-k.invariant.1 (omega arith)

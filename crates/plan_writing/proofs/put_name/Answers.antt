@@ -8,11 +8,6 @@ use mathlib.Core.Path.{◌≡◌, refl, sym, ap, ◌∙◌}
 use native.Mathlib.Omega.{arith}
 use Prim.Native.Nat.{ℕ, ◌+◌, ◌-◌, ◌≤◌, ◌<◌}
 use Rattle.plan_writing.proofs.put_name.Goals as goal
-use Rattle.plan_writing.proofs.put_name.Goals.{At-loop-i}
-
--- the length stays
-size : (c : At-loop-i invariant-loop decreases-loop) → length c.loop.out ≡ length c.before.args.out.now
-size c = let a = c.before.args in ap length c.loop.invariant.1 ∙ length-sets a.out.now a.at (take c.loop.i a.t3)
 
 pub loop-i-init : goal.loop-i-init
 loop-i-init c = (omega arith, refl)
@@ -42,7 +37,9 @@ pub overflow_add-out : goal.overflow_add-out
 overflow_add-out c = omega arith
 
 pub bounds-out-at : goal.bounds-out-at
-bounds-out-at c = let e = size (goal.at.bounds-out-at c).At-loop-i in omega arith
+bounds-out-at c =
+    let size : length c.loop-i.out ≡ length c.args.out.now = let a = c.args in ap length c.loop-i.invariant.1 ∙ length-sets a.out.now a.at (take c.loop-i.i a.t3) in
+    let e = size in omega arith
 
 pub overflow_add-i : goal.overflow_add-i
 overflow_add-i c = omega arith
@@ -51,4 +48,6 @@ pub loop-i-smaller : goal.loop-i-smaller
 loop-i-smaller c = omega arith
 
 pub shape_of-out : goal.shape_of-out
-shape_of-out c = size (goal.at.shape_of-out c).At-loop-i
+shape_of-out c =
+    let size : length c.loop-i.out ≡ length c.args.out.now = let a = c.args in ap length c.loop-i.invariant.1 ∙ length-sets a.out.now a.at (take c.loop-i.i a.t3) in
+    size
