@@ -7,13 +7,13 @@ LISTS ?= 400
 SEED ?= 1
 ROUNDS ?=
 CARGO = cargo --offline
-LIBRARY = target/staticlib/libexports.a
+LIBRARY = crates/exports/out/libexports.a
 
 # The proved calls as a library for Rust; proved again only where a crate has changed.
 library: $(LIBRARY)
 
 $(LIBRARY): crates.txt $(shell find crates -name '*.rt' -o -name '*.antt')
-	rt staticlib exports
+	cd crates/exports && rt lib
 	touch $@
 
 # An hour of a small line.
@@ -89,5 +89,5 @@ benchmark-account: library
 
 # The calendar against std's BTreeSet, in one run; ROUNDS=20 by default.
 benchmark-calendar: library
-	rustc -O --edition 2021 benchmarks/calendar.rs -L target/staticlib -o target/benchmark-calendar
+	rustc -O --edition 2021 benchmarks/calendar.rs -L crates/exports/out -o target/benchmark-calendar
 	target/benchmark-calendar $(ROUNDS)
