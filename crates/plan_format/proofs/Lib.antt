@@ -4,6 +4,4 @@ pub mod Names
 pub mod Stations
 pub mod Answers
 pub mod Accepted
-pub mod Walk
-pub mod Typed
 pub mod Edges
