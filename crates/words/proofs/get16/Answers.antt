@@ -1,6 +1,5 @@
 -- Two bytes are the number of 16 bits that the definition says.
 use mathlib.Core.Path.{◌∙◌}
-use borrow.Author.Rules.{rules}
 use Rattle.words.proofs.Halves.{load_joined, le_byte}
 use Rattle.words.proofs.get16.Goals as goal
 

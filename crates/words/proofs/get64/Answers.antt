@@ -1,5 +1,4 @@
 -- Two halves joined.
-use borrow.Author.Rules.{rules}
 use Rattle.words.proofs.Halves.{load_joined}
 use Rattle.words.proofs.get64.Goals as goal
 

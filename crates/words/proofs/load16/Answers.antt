@@ -1,6 +1,5 @@
 -- The test decides between the plain load and 0.
 use mathlib.Core.Path.{sym, ◌∙◌}
-use borrow.Author.Rules.{rules}
 use Rattle.words.proofs.Total.{load_in, load_out, test_in, test_out}
 use Rattle.words.proofs.load16.Goals as goal
 

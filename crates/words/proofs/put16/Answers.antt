@@ -1,5 +1,4 @@
 -- Two bytes are the number of 16 bits that the definition says.
-use borrow.Author.Rules.{rules}
 use Prim.Native.Nat.{◌/◌, ◌%◌}
 use native.Mathlib.Omega.{arith}
 use lib.ListN.{length-set}

@@ -1,5 +1,4 @@
 -- Two halves joined.
-use borrow.Author.Rules.{rules}
 use Rattle.words.proofs.Halves.{put_joined}
 use Rattle.words.proofs.put64.Goals as goal
 

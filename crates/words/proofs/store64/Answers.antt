@@ -1,6 +1,5 @@
 -- The test decides between the plain store and no change.
 use mathlib.Core.Path.{sym, ◌∙◌}
-use borrow.Author.Rules.{rules}
 use Rattle.words.proofs.Total.{store_in, store_out, test_in, test_out}
 use Rattle.words.proofs.store64.Goals as goal
 
