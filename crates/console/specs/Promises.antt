@@ -1,6 +1,9 @@
--- What reading a line of input promises. The kit's contracts do not say what the input is, so nothing here can say how long the line is.
-use Rattle.std.specs.Prelude.{◌≡◌, ◌≢◌, List, ℕ, ◌<◌, get_or, drop}
-use Rattle.io.specs.Counts.{IsPrefixLen}
+-- What reading and writing promise. The kit's contracts do not say what the input is, so nothing here can say how long the line is.
+use Rattle.std.specs.Prelude.{◌≡◌, ◌≢◌, List, ℕ, ◌<◌, ◌≤◌, get_or, length, take, drop}
+
+-- `&ys[..n]` is in bounds and has n bytes
+abbrev pub IsPrefixLen : ℕ → List ℕ → Type 0
+IsPrefixLen n ys = (n ≤ length ys) × (n ≡ length (take n ys))
 
 -- the first r bytes of the buffer are a line without its end, "A line ends with byte 10" (document 01, "Bench program"); the bytes after them are as they
 -- were
