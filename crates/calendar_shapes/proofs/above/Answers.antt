@@ -3,7 +3,6 @@ use mathlib.Core.Path.{ap}
 use Prim.Native.Nat.{ℕ, ◌/◌}
 use lib.Pow.{shr_le}
 use Rattle.calendar_shapes.proofs.Powers.{by_exponent}
-use borrow.Author.Rules.{rules}
 use Rattle.calendar_shapes.proofs.above.Goals as goal
 
 pub returns : goal.returns

@@ -6,7 +6,6 @@ use native.Mathlib.Omega.{arith}
 use lib.Dec.{lit<}
 use lib.Pow.{shl_exact}
 use Rattle.calendar_shapes.proofs.Powers.{row_sizes, by_exponent}
-use borrow.Author.Rules.{rules}
 use Rattle.calendar_shapes.proofs.arity.Goals as goal
 
 pub returns : goal.returns

@@ -7,7 +7,6 @@ use lib.Dec.{lit<}
 use lib.Pow.{shl_exact}
 use Rattle.calendar_shapes.specs.Rule.{arity_in}
 use Rattle.calendar_shapes.proofs.Powers.{row_sizes, by_exponent}
-use borrow.Author.Rules.{rules}
 use Rattle.calendar_shapes.proofs.child_of.Goals as goal
 
 one : (k row : ℕ) → k ≡ 3 + row % 4 → 1 * 2 ^ k % 2 ^ 32 ≡ arity_in row

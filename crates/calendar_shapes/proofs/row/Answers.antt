@@ -2,7 +2,6 @@
 use native.Mathlib.Omega.{arith}
 use Prim.Native.Nat.{◌%◌}
 use Rattle.calendar_shapes.proofs.Table.{row_right}
-use borrow.Author.Rules.{rules}
 use Rattle.calendar_shapes.proofs.row.Goals as goal
 
 pub returns : goal.returns

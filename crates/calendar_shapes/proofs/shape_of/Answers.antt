@@ -1,8 +1,7 @@
 -- The rows before i have another arity.
 use mathlib.Core.Path.{◌≡◌, subst}
-use Prim.Native.Nat.{ℕ, ◌+◌, ◌-◌, ◌%◌, ◌^◌, ◌≤◌, ◌<◌}
+use Prim.Native.Nat.{ℕ, ◌%◌}
 use native.Mathlib.Omega.{arith}
-use borrow.Author.Rules.{rules}
 use Rattle.calendar_shapes.specs.Rule.{Right}
 use Rattle.calendar_shapes.proofs.Table.{none_more}
 use Rattle.calendar_shapes.proofs.shape_of.Goals as goal
