@@ -1,6 +1,6 @@
 -- Rings over any reading of the links: what an insertion and a removal make of a ring, and which rings a change leaves as they were.
 -- nx, pv are the links before the change, nx', pv' those after it.
-use mathlib.Core.Path.{◌≡◌, refl, ◌∙◌}
+use mathlib.Core.Path.{◌≡◌, refl, ◌∙◌, sym, subst}
 use mathlib.Core.List.{List, [], ◌∷◌, ◌++◌, append_assoc}
 use Prim.Native.Nat.{ℕ, ◌+◌, ◌<◌, ◌≤◌}
 use native.Mathlib.Decide.{ℕ_discrete}
@@ -19,7 +19,7 @@ module _ {nx pv nx' pv' : ℕ → ℕ} {a b x : ℕ} (only : Only nx pv nx' pv' 
       → Run nx pv s ys → Run nx' pv' s ys
   keep_left s [] e o m k r = tt
   keep_left s (y ∷ ys) e o m k r =
-      let l : 1 ≤ occurs a (y ∷ ys) = rw e at (occurs_last y ys) in (
+      let l : 1 ≤ occurs a (y ∷ ys) = subst (λ j. 1 ≤ occurs j (y ∷ ys)) e (occurs_last y ys) in (
         only.nexts s (other (omega arith)) (other (omega arith)) ∙ r.0,
         only.prevs y (other (omega arith)) (other (omega arith)) ∙ r.1,
         keep_left y ys e (omega arith) (omega arith) (omega arith) r.2,
@@ -106,7 +106,9 @@ module _ {nx pv nx' pv' : ℕ → ℕ} {n s : ℕ} (ys zs : List ℕ) (x : ℕ) 
       }
     where
       one : (i : ℕ) → Dec (i ≡ x) → occurs i (s ∷ ys ++ x ∷ zs) ≤ 1
-      one i (yes e) = rw e (omega (arith, hit_same x, occurs_append x ys zs, occurs_append x ys (x ∷ zs)))
+      one i (yes e) =
+          let same : occurs x (s ∷ ys ++ x ∷ zs) ≤ 1 = omega (arith, hit_same x, occurs_append x ys zs, occurs_append x ys (x ∷ zs)) in
+          subst (λ j. occurs j (s ∷ ys ++ x ∷ zs) ≤ 1) (sym e) same
       one i (no f) = omega (arith, R.once i, hit_ne i x f, occurs_append i ys zs, occurs_append i ys (x ∷ zs))
 
   pub removed : Bridged nx pv nx' pv' (last_of s ys) (head_of zs s) x → Ring nx pv n s (ys ++ x ∷ zs) → Ring nx' pv' n s (ys ++ zs)

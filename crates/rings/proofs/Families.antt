@@ -1,5 +1,5 @@
 -- A family of rings in one table: one ring gets a node or loses one, and the others stay; the family stays where other bytes change.
-use mathlib.Core.Path.{◌≡◌, ap}
+use mathlib.Core.Path.{◌≡◌, ap, sym, subst}
 use mathlib.Core.Logic.{◌≢◌}
 use mathlib.Core.List.{List, [], ◌∷◌, ◌++◌}
 use Prim.Native.Nat.{ℕ, suc, ◌+◌, ◌*◌, ◌<◌, ◌≤◌}
@@ -86,7 +86,9 @@ module _ {t : List ℕ} {o n m : ℕ} {R : ℕ → List ℕ} (F : Rings t o n m 
             (insert_other F.room ys zs x old outs hx (λ i. rw (← e) (one_ring F s u hs h (omega arith) i)) (free_each m R x out u h) (F.ring u h))
 
         one : (i : ℕ) → Dec (i ≡ x) → in_rings m R' i ≤ 1
-        one i (yes p) = rw p (omega (arith, rings_more x, hit_same x))
+        one i (yes p) =
+            let same : in_rings m R' x ≤ 1 = omega (arith, rings_more x, hit_same x) in
+            subst (λ j. in_rings m R' j ≤ 1) (sym p) same
         one i (no d) = omega (arith, rings_more i, hit_ne i x d, F.apart i)
 
   -- x goes, and is in no ring
@@ -138,5 +140,7 @@ rings_empty {t} {o} {n} {m} {R} R' F hm out same e =
     sums i = sum_same m (λ s. occurs i (s ∷ R' s)) (λ s. occurs i (s ∷ R s)) (λ u h. rw (same u h))
 
     one : (i : ℕ) → Dec (i ≡ m) → in_rings (suc m) R' i ≤ 1
-    one i (yes p) = rw p (omega (arith, sums m, hit_same m, ap (occurs m) e))
+    one i (yes p) =
+        let same : in_rings (suc m) R' m ≤ 1 = omega (arith, sums m, hit_same m, ap (occurs m) e) in
+        subst (λ j. in_rings (suc m) R' j ≤ 1) (sym p) same
     one i (no d) = omega (arith, sums i, F.apart i, hit_ne i m d, ap (occurs i) e)
