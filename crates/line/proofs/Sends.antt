@@ -93,13 +93,13 @@ module _ (s : ℕ) (c : Config) (F : Fits s c) where
   unfolding period
   period_least st = either (λ n. 1 ≤ n) (leb c.threshold st.level) c.spring c.calm F.spring_least F.calm_least
 
-  later : {t u to : ℕ} {st : State} {m k : Matter} → MaySend c s t st m u to k → t < u
+  later : {t : ℕ} {st : State} {u to : ℕ} {m k : Matter} → MaySend c s t st m u to k → t < u
   later {st = st} next_reading = omega (arith, period_least st)
   later own_frame = omega (arith, F.hop_least)
   later (repeated h) = omega (arith, F.hop_least)
   later passed_on = omega (arith, F.hop_least)
 
-  lower : {t u to : ℕ} {st : State} {m k : Matter} → MaySend c s t st m u to k → to ≤ s
+  lower : {t : ℕ} {st : State} {u to : ℕ} {m k : Matter} → MaySend c s t st m u to k → to ≤ s
   lower next_reading = le_refl s
   lower own_frame = F.parent_most
   lower (repeated h) = le_refl s

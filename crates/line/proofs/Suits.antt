@@ -88,7 +88,7 @@ means_suits n kind value m e = let b = means_back n kind value m e in rw (b.0, b
 
 -- ---- what an event that suits sends suits
 
-matter_suits : (n : ℕ) {c : Config} {s t u to : ℕ} {st : State} {m k : Matter} → n ≤ 256 → s < n → Suits n m → MaySend c s t st m u to k → Suits n k
+matter_suits : (n : ℕ) {c : Config} {s t : ℕ} {st : State} {u to : ℕ} {m k : Matter} → n ≤ 256 → s < n → Suits n m → MaySend c s t st m u to k → Suits n k
 unfolding matter_of
 matter_suits n l h e next_reading = refl
 matter_suits n {s = s} l h e own_frame = frame_suits n s 0 l h (omega arith)
