@@ -1,6 +1,5 @@
 -- The code is the definition, with a product that fits 64 bits.
 use mathlib.Core.Path.{refl}
-use borrow.Author.Rules.{rules}
 use Rattle.generator.specs.Draw.{next_draw}
 use Rattle.generator.proofs.by_formula.Goals as goal
 
