@@ -1,5 +1,4 @@
 -- The four stores link the node in.
-use borrow.Author.Rules.{rules}
 use Rattle.rings.proofs.Operations.{insert_made}
 use Rattle.rings.proofs.insert_after.Goals as goal
 

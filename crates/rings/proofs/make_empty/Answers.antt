@@ -1,5 +1,4 @@
 -- The two stores make the empty ring.
-use borrow.Author.Rules.{rules}
 use Rattle.rings.proofs.Operations.{empty_made}
 use Rattle.rings.proofs.make_empty.Goals as goal
 

@@ -1,6 +1,5 @@
 -- The test decides between the store and nothing.
 use borrow.Author.Tests.{lt-ltb, le-ltb}
-use borrow.Author.Rules.{rules}
 use Rattle.rings.specs.Table.{with_next}
 use Rattle.rings.proofs.set_next.Goals as goal
 

@@ -1,6 +1,5 @@
 -- The test decides between the store and nothing.
 use borrow.Author.Tests.{lt-ltb, le-ltb}
-use borrow.Author.Rules.{rules}
 use Rattle.rings.specs.Table.{with_prev}
 use Rattle.rings.proofs.set_prev.Goals as goal
 

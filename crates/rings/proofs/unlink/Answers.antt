@@ -1,5 +1,4 @@
 -- The two stores bridge the node.
-use borrow.Author.Rules.{rules}
 use Rattle.rings.proofs.Operations.{unlink_made}
 use Rattle.rings.proofs.unlink.Goals as goal
 
