@@ -3,7 +3,6 @@ use native.Mathlib.Omega.{arith}
 use Prim.Native.Nat.{◌/◌, ◌%◌}
 use borrow.Author.Tests.{lt-ltb, le-ltb, le-leb, lt-leb}
 use Rattle.line.specs.Matter.{frame_of}
-use borrow.Author.Rules.{rules}
 use Rattle.line.proofs.frame_of.Goals as goal
 
 pub returns-then-origin-stations : goal.returns-then-origin-stations

@@ -6,7 +6,6 @@ use borrow.Author.Tests.{ne_eqb, le-leb, lt-leb}
 use Rattle.refusal.specs.Tests.{largest}
 use Rattle.line.specs.Matter.{matter_of}
 use Rattle.line.proofs.Unsuited.{numbered}
-use borrow.Author.Rules.{rules}
 use Rattle.line.proofs.matter_of.Goals as goal
 
 pub returns-then-value-eq0 : goal.returns-then-value-eq0
