@@ -8,7 +8,11 @@ use Rattle.calendar_lists.proofs.Finds.{Way, way_start, way_end, way_out, way_ba
 use Rattle.calendar_lists.proofs.find.Goals as goal
 
 pub returns-then-list-ge65792 : goal.returns-then-list-ge65792
-returns-then-list-ge65792 c = (omega arith, (λ h. refl, λ a l. absurd (omega arith)))
+returns-then-list-ge65792 c = record {
+      within = omega arith;
+      none = λ h. refl;
+      place = λ a l. absurd (omega arith);
+    }
 
 pub overflow_add-p : goal.overflow_add-p
 overflow_add-p c = omega arith
@@ -19,12 +23,20 @@ loop-n-init c = (omega arith, c.link-n.ensures, way_start _ _ _, omega arith)
 pub returns-then-n-eq0 : goal.returns-then-n-eq0
 returns-then-n-eq0 c =
     let inv = c.loop-n.invariant in
-    (inv.0, (λ h. absurd (omega arith), way_end _ _ _ _ _ _ inv.2 inv.1 c.if-n-eq0.true))
+    record {
+      within = inv.0;
+      none = λ h. absurd (omega arith);
+      place = way_end _ _ _ _ _ _ inv.2 inv.1 c.if-n-eq0.true;
+    }
 
 pub returns-then-n-gt256 : goal.returns-then-n-gt256
 returns-then-n-gt256 c =
     let inv = c.loop-n.invariant in
-    (inv.0, (λ h. absurd (omega arith), way_out _ _ _ _ _ _ inv.2 inv.1 c.if-n-gt256.true))
+    record {
+      within = inv.0;
+      none = λ h. absurd (omega arith);
+      place = way_out _ _ _ _ _ _ inv.2 inv.1 c.if-n-gt256.true;
+    }
 
 pub overflow_sub-n : goal.overflow_sub-n
 overflow_sub-n c = omega arith
@@ -37,14 +49,22 @@ returns-then-kn-last c =
     let inv = c.loop-n.invariant in
     let if2 = c.if-n-eq0 in
     let rank = c.rank-kn in
-    (inv.0, (λ h. absurd (omega arith), way_bad _ _ _ _ _ _ _ inv.2 inv.1 if2.false rank.ensures c.if-kn-last.true))
+    record {
+      within = inv.0;
+      none = λ h. absurd (omega arith);
+      place = way_bad _ _ _ _ _ _ _ inv.2 inv.1 if2.false rank.ensures c.if-kn-last.true;
+    }
 
 pub returns-then-k-kn : goal.returns-then-k-kn
 returns-then-k-kn c =
     let inv = c.loop-n.invariant in
     let if2 = c.if-n-eq0 in
     let rank = c.rank-kn in
-    (inv.0, (λ h. absurd (omega arith), way_here _ _ _ _ _ _ _ inv.2 inv.1 if2.false rank.ensures c.if-k-kn.true))
+    record {
+      within = inv.0;
+      none = λ h. absurd (omega arith);
+      place = way_here _ _ _ _ _ _ _ inv.2 inv.1 if2.false rank.ensures c.if-k-kn.true;
+    }
 
 pub overflow_sub-p : goal.overflow_sub-p
 overflow_sub-p c = omega arith

@@ -7,16 +7,28 @@ use borrow.Author.Rules.{rules}
 use Rattle.calendar_lists.proofs.head.Goals as goal
 
 pub returns-then-list-ge65792 : goal.returns-then-list-ge65792
-returns-then-list-ge65792 c = (omega arith, (λ h. refl, λ a l. absurd (omega arith)))
+returns-then-list-ge65792 c = record {
+      within = omega arith;
+      none = λ h. refl;
+      first = λ a l. absurd (omega arith);
+    }
 
 pub returns-then-h-gt256 : goal.returns-then-h-gt256
 returns-then-h-gt256 c =
     let args = c.args in
     let link = c.link-h in
-    (omega arith, (λ h. refl, λ a _ l T. absurd (head_within a args.b.now T _ _ l link.ensures c.if-h-gt256.true)))
+    record {
+      within = omega arith;
+      none = λ h. refl;
+      first = λ a _ l T. absurd (head_within a args.b.now T _ _ l link.ensures c.if-h-gt256.true);
+    }
 
 pub returns : goal.returns
 returns c =
     let args = c.args in
     let link = c.link-h in
-    (omega arith, (λ h. absurd (omega arith), λ a _ l T. head_of a args.b.now T _ _ l link.ensures))
+    record {
+      within = omega arith;
+      none = λ h. absurd (omega arith);
+      first = λ a _ l T. head_of a args.b.now T _ _ l link.ensures;
+    }

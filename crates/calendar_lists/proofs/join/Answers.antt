@@ -6,10 +6,16 @@ use borrow.Author.Rules.{rules}
 use Rattle.calendar_lists.proofs.join.Goals as goal
 
 pub returns-then-p-ge66048 : goal.returns-then-p-ge66048
-returns-then-p-ge66048 c = (join_nothing _ _ _ (inl c.if-p-ge66048.true), λ h. refl)
+returns-then-p-ge66048 c = record {
+      joined = join_nothing _ _ _ (inl c.if-p-ge66048.true);
+      none = λ h. refl;
+    }
 
 pub returns-then-n-gt256 : goal.returns-then-n-gt256
-returns-then-n-gt256 c = (join_nothing _ _ _ (inr c.if-n-gt256.true), λ h. refl)
+returns-then-n-gt256 c = record {
+      joined = join_nothing _ _ _ (inr c.if-n-gt256.true);
+      none = λ h. refl;
+    }
 
 pub returns : goal.returns
 returns c =
@@ -17,4 +23,7 @@ returns c =
     let if2 = c.if-n-gt256 in
     let set_link = c.set_link in
     let set_back = c.set_back in
-    (join_two _ _ _ _ _ if1.false if2.false set_link.ensures set_back.ensures, λ h. absurd (join_in _ _ if1.false if2.false h))
+    record {
+      joined = join_two _ _ _ _ _ if1.false if2.false set_link.ensures set_back.ensures;
+      none = λ h. absurd (join_in _ _ if1.false if2.false h);
+    }
