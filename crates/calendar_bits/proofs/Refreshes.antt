@@ -48,10 +48,12 @@ inside a list bytes L B eL eB l long (inr h) = omega arith
 
 -- what is promised of a row is promised of each row that is one with it modulo 4
 pub by_row : (i row : ℕ) (when : (ℕ → ℕ) → Type 0) (list : ℕ) (xs ys : List ℕ) → row % 4 ≡ i % 4
-    → Refreshed (arity_in i) when list xs ys × (Outside (arity_in i) list (length xs) → ys ≡ xs)
-    → Refreshed (arity_in row) when list xs ys × (Outside (arity_in row) list (length xs) → ys ≡ xs)
-by_row i row when list xs ys e =
-    subst (λ (a : ℕ). Refreshed a when list xs ys × (Outside a list (length xs) → ys ≡ xs)) (same_row i row e)
+    → Refreshed (arity_in i) when list xs ys → Refreshed (arity_in row) when list xs ys
+by_row i row when list xs ys e = subst (λ (a : ℕ). Refreshed a when list xs ys) (same_row i row e)
+
+pub none_by_row : (i row list : ℕ) (xs ys : List ℕ) → row % 4 ≡ i % 4 → (Outside (arity_in i) list (length xs) → ys ≡ xs)
+    → Outside (arity_in row) list (length xs) → ys ≡ xs
+none_by_row i row list xs ys e = subst (λ (a : ℕ). Outside a list (length xs) → ys ≡ xs) (same_row i row e)
 
 -- the last row: none of the others
 pub last_row : (row : ℕ) → (row % 4 ≡ 0 → ⊥) → (row % 4 ≡ 1 → ⊥) → (row % 4 ≡ 2 → ⊥) → row % 4 ≡ 3 % 4

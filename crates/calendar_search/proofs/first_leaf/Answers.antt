@@ -27,10 +27,10 @@ returns-then-x-ne0 c =
     let leaf = c.leaf_under in
     let loop = c.loop-i in
     let loop-test = c.loop-i-test in
-    let word = c.word-x in (
-      (omega (arith, leaf.ensures.0), omega arith),
-      λ T. stop_at _ _ T _ _ _ _ (omega arith) loop-test.true (loop.invariant T) word.ensures c.if-x-ne0.true leaf.ensures.1,
-    )
+    let word = c.word-x in record {
+      within = (omega (arith, leaf.ensures.within), omega arith);
+      first = λ T. stop_at _ _ T _ _ _ _ (omega arith) loop-test.true (loop.invariant T) word.ensures c.if-x-ne0.true leaf.ensures.under;
+    }
 
 pub overflow_add-i : goal.overflow_add-i
 overflow_add-i c = omega arith
@@ -49,4 +49,4 @@ pub returns : goal.returns
 returns c =
     let loop = c.loop-i in
     let loop-test = c.loop-i-test in
-    ((omega arith, omega arith), λ T. clear_end _ _ T _ _ loop-test.false (loop.invariant T))
+    record { within = (omega arith, omega arith); first = λ T. clear_end _ _ T _ _ loop-test.false (loop.invariant T) }

@@ -12,7 +12,11 @@ pub returns-then-b-table_bytes : goal.returns-then-b-table_bytes
 returns-then-b-table_bytes c =
     let bytes = c.table_bytes in
     let short = c.if-b-table_bytes in
-    (λ l. absurd (omega arith), (λ h. refl, λ T. absurd (omega (arith, T.long, short.true, bytes.ensures.0))))
+    record {
+      from = λ l. absurd (omega arith);
+      short = λ h. refl;
+      first = λ T. absurd (omega (arith, T.long, short.true, bytes.ensures.0));
+    }
 
 pub overflow_mul-nodes : goal.overflow_mul-nodes
 overflow_mul-nodes c = omega (arith, c.arity-a.ensures.1)
@@ -46,15 +50,13 @@ returns-then-c-a c =
     let if2 = c.if-c-a in
     let bytes = c.table_bytes in
     let first = c.below.ensures.fits (omega (arith, above.ensures.1)) in
-    let least = from_least _ _ _ _ _ _ _ arity.ensures.0 above.ensures.0 child-of.ensures.0 first.0 first-from.ensures.1.0 if2.true in (
-      λ l. omega (arith, loop.invariant.0, least),
-      (
-        λ h. absurd (omega (arith, if1.false, bytes.ensures.0)),
-        λ T.
+    let least = from_least _ _ _ _ _ _ _ arity.ensures.0 above.ensures.0 child-of.ensures.0 first.0 first-from.ensures.first if2.true in record {
+      from = λ l. omega (arith, loop.invariant.0, least);
+      short = λ h. absurd (omega (arith, if1.false, bytes.ensures.0));
+      first = λ T.
             found_at _ _ T _ _ _ _ _ _ _ _ _ arity.ensures.0 above.ensures.0 child-of.ensures.0 first.0
-            nodes-at.ensures.0 word.ensures (loop.invariant.1 T) first-from.ensures.1.0 if2.true,
-      ),
-    )
+            nodes-at.ensures.0 word.ensures (loop.invariant.1 T) first-from.ensures.first if2.true;
+    }
 
 pub overflow_add-s : goal.overflow_add-s
 overflow_add-s c =
@@ -86,11 +88,15 @@ loop-s-preserved c =
     let next = from_next _ _ _ _ _ 0 _ arity.ensures.0 above.ensures.0 child-of.ensures.0 first.0 in (
       omega (arith, next, loop.invariant.0),
       λ T. none_at _ _ T _ _ _ _ _ _ _ _ _ arity.ensures.0 above.ensures.0 child-of.ensures.0 first.0
-          nodes-at.ensures.0 word.ensures (loop.invariant.1 T) first-from.ensures.1.0 if2.false,
+          nodes-at.ensures.0 word.ensures (loop.invariant.1 T) first-from.ensures.first if2.false,
     )
 
 pub returns : goal.returns
 returns c =
     let loop = c.loop-s in
     let loop-test = c.loop-s-test in
-    (λ l. absurd (omega arith), (λ h. refl, λ T. none_end _ _ _ _ loop-test.false (loop.invariant.1 T)))
+    record {
+      from = λ l. absurd (omega arith);
+      short = λ h. refl;
+      first = λ T. none_end _ _ _ _ loop-test.false (loop.invariant.1 T);
+    }

@@ -18,16 +18,16 @@ pub overflow_add-result : goal.overflow_add-result
 overflow_add-result c =
     let first-child = c.first_child in
     let first = c.below.ensures.fits (omega arith) in
-    let second = c.below-2.ensures.fits (omega (arith, first.1, first-child.ensures.0)) in
-    omega (arith, first.1, first-child.ensures.0, second.1, c.first_child-2.ensures.within)
+    let second = c.below-2.ensures.fits (omega (arith, first.1, first-child.ensures.within)) in
+    omega (arith, first.1, first-child.ensures.within, second.1, c.first_child-2.ensures.within)
 
 pub returns : goal.returns
 returns c =
     let first-child = c.first_child in
     let first = c.below.ensures.fits (omega arith) in
-    let second = c.below-2.ensures.fits (omega (arith, first.1, first-child.ensures.0)) in
-    let first-child2 = c.first_child-2 in (
-      omega (arith, first.1, first-child.ensures.0, second.1, first-child2.ensures.0),
-      leaf_at _ _ _ _ _ _ _ _ _ _ _ c.arity-a.ensures.0 first-child.ensures.1.0 c.nodes_at.ensures.0 first.0 c.word-y.ensures
-          first-child2.ensures.1.0 second.0,
-    )
+    let second = c.below-2.ensures.fits (omega (arith, first.1, first-child.ensures.within)) in
+    let first-child2 = c.first_child-2 in record {
+      within = omega (arith, first.1, first-child.ensures.within, second.1, first-child2.ensures.within);
+      under = leaf_at _ _ _ _ _ _ _ _ _ _ _ c.arity-a.ensures.0 first-child.ensures.first c.nodes_at.ensures.0 first.0 c.word-y.ensures
+          first-child2.ensures.first second.0;
+    }
