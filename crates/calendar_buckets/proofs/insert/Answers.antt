@@ -18,9 +18,9 @@ returns c =
     let join = c.join in
     let join2 = c.join-2 in
     let raise = c.raise in
-    let K = subst (λ (m : ℕ). Joined find.result m join.new.0 join2.new.0) (add-one args.s) join2.ensures.0 in (
-      put_kept _ _ _ _ _ _ _ _ _ _ _ pre.0 set_word.ensures join.ensures.0 K raise.ensures.0,
-      λ T e.
-          put_in _ _ _ _ _ _ _ _ _ _ _ pre.0 set_word.ensures join.ensures.0 K raise.ensures.0 T e pre.1 pre.2 pre.3 pre.4
-          (find.ensures.1.1 _ pre.5 pre.3 (omega (arith, pre.1)) T.lists) link.ensures,
-    )
+    let K = subst (λ (m : ℕ). Joined find.result m join.new.b join2.new.b) (add-one args.s) join2.ensures.joined in record {
+      kept = put_kept _ _ _ _ _ _ _ _ _ _ _ pre.0 set_word.ensures join.ensures.joined K raise.ensures.raised;
+      placed = λ T e.
+          put_in _ _ _ _ _ _ _ _ _ _ _ pre.0 set_word.ensures join.ensures.joined K raise.ensures.raised T e pre.1 pre.2 pre.3 pre.4
+          (find.ensures.place _ pre.5 pre.3 (omega (arith, pre.1)) T.lists) link.ensures;
+    }

@@ -12,16 +12,32 @@ use borrow.Author.Rules.{rules}
 use Rattle.calendar_buckets.proofs.put.Goals as goal
 
 pub returns-then-s-ge256 : goal.returns-then-s-ge256
-returns-then-s-ge256 c = (kept_same _, (λ h. refl, λ a T l d m. absurd (omega arith)))
+returns-then-s-ge256 c = record {
+      kept = kept_same _;
+      none = λ h. refl;
+      placed = λ a T l d m. absurd (omega arith);
+    }
 
 pub returns-then-due-eq0 : goal.returns-then-due-eq0
-returns-then-due-eq0 c = (kept_same _, (λ h. refl, λ a T l d m. absurd (omega arith)))
+returns-then-due-eq0 c = record {
+      kept = kept_same _;
+      none = λ h. refl;
+      placed = λ a T l d m. absurd (omega arith);
+    }
 
 pub returns-then-due-gt-LAST : goal.returns-then-due-gt-LAST
-returns-then-due-gt-LAST c = (kept_same _, (λ h. refl, λ a T l d m. absurd (omega arith)))
+returns-then-due-gt-LAST c = record {
+      kept = kept_same _;
+      none = λ h. refl;
+      placed = λ a T l d m. absurd (omega arith);
+    }
 
 pub returns-then-b-lt-BYTES : goal.returns-then-b-lt-BYTES
-returns-then-b-lt-BYTES c = (kept_same _, (λ h. refl, λ a T l d m. absurd (too_short T c.if-b-lt-BYTES.true)))
+returns-then-b-lt-BYTES c = record {
+      kept = kept_same _;
+      none = λ h. refl;
+      placed = λ a T l d m. absurd (too_short T c.if-b-lt-BYTES.true);
+    }
 
 pub returns : goal.returns
 returns c =
@@ -33,16 +49,14 @@ returns c =
     let take = c.take in
     let word = c.word-row in
     let bucket = c.bucket-list in
-    let insert = c.insert in (
-      kept_on take.ensures.0 insert.ensures.0,
-      (
-        λ h. absurd (put_nothing _ _ _ if1.false if2.false if3.false if4.false h),
-        λ a T l d m.
-            let G = take.ensures.1.1 a T l in
+    let insert = c.insert in record {
+      kept = kept_on take.ensures.kept insert.ensures.kept;
+      none = λ h. absurd (put_nothing _ _ _ if1.false if2.false if3.false if4.false h);
+      placed = λ a T l d m.
+            let G = take.ensures.gone a T l in
             let e = by_row a _ _ word.ensures G.changed.table in
             put_after G
-            (subst (λ (k : ℕ). Placed k args.s args.due (bucket_for k args.leaf args.s) take.new.0 insert.new.0) (sym e)
-            (subst (λ (k : ℕ). Placed (arity_in word.result) args.s args.due k take.new.0 insert.new.0) bucket.ensures.0
-            (insert.ensures.1 (subst (λ (k : ℕ). Table k take.new.0) e G.changed.table) G.due_is))),
-      ),
-    )
+            (subst (λ (k : ℕ). Placed k args.s args.due (bucket_for k args.leaf args.s) take.new.b insert.new.b) (sym e)
+            (subst (λ (k : ℕ). Placed (arity_in word.result) args.s args.due k take.new.b insert.new.b) bucket.ensures.0
+            (insert.ensures.placed (subst (λ (k : ℕ). Table k take.new.b) e G.changed.table) G.due_is)));
+    }

@@ -10,13 +10,25 @@ use borrow.Author.Rules.{rules}
 use Rattle.calendar_buckets.proofs.take.Goals as goal
 
 pub returns-then-s-ge256 : goal.returns-then-s-ge256
-returns-then-s-ge256 c = (kept_same _, (λ h. refl, λ a T l. absurd (omega arith)))
+returns-then-s-ge256 c = record {
+      kept = kept_same _;
+      none = λ h. refl;
+      gone = λ a T l. absurd (omega arith);
+    }
 
 pub returns-then-b-lt-BYTES : goal.returns-then-b-lt-BYTES
-returns-then-b-lt-BYTES c = (kept_same _, (λ h. refl, λ a T l. absurd (too_short T c.if-b-lt-BYTES.true)))
+returns-then-b-lt-BYTES c = record {
+      kept = kept_same _;
+      none = λ h. refl;
+      gone = λ a T l. absurd (too_short T c.if-b-lt-BYTES.true);
+    }
 
 pub returns-then-due-eq0 : goal.returns-then-due-eq0
-returns-then-due-eq0 c = (kept_same _, (λ h. refl, λ a T l. gone_already _ _ _ T (sym (c.due.ensures.0 l) ∙ c.if-due-eq0.true)))
+returns-then-due-eq0 c = record {
+      kept = kept_same _;
+      none = λ h. refl;
+      gone = λ a T l. gone_already _ _ _ T (sym (c.due.ensures.0 l) ∙ c.if-due-eq0.true);
+    }
 
 pub returns : goal.returns
 returns c =
@@ -26,13 +38,11 @@ returns c =
     let due = c.due in
     let if3 = c.if-due-eq0 in
     let word = c.word-row in
-    let unlink = c.unlink in (
-      unlink.ensures.0,
-      (
-        λ h. absurd (take_nothing _ _ if1.false if2.false h),
-        λ a T l.
+    let unlink = c.unlink in record {
+      kept = unlink.ensures.kept;
+      none = λ h. absurd (take_nothing _ _ if1.false if2.false h);
+      gone = λ a T l.
             let e = by_row a _ _ word.ensures T in
-            subst (λ (m : ℕ). Gone m args.s args.b.now unlink.new.0) (sym e)
-            (unlink.ensures.1 (subst (λ (m : ℕ). Table m args.b.now) e T) (λ z. if3.false (due.ensures.0 l ∙ z))),
-      ),
-    )
+            subst (λ (m : ℕ). Gone m args.s args.b.now unlink.new.b) (sym e)
+            (unlink.ensures.gone (subst (λ (m : ℕ). Table m args.b.now) e T) (λ z. if3.false (due.ensures.0 l ∙ z)));
+    }

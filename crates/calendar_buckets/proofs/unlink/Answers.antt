@@ -18,9 +18,9 @@ returns c =
     let word = c.word in
     let set_word = c.set_word in
     let join = c.join in
-    let lower = c.lower in (
-      take_kept _ _ 0 _ _ _ _ _ _ _ set_word.ensures join.ensures.0 lower.ensures.0,
-      λ T r.
+    let lower = c.lower in record {
+      kept = take_kept _ _ 0 _ _ _ _ _ _ _ set_word.ensures join.ensures.joined lower.ensures.lowered;
+      gone = λ T r.
           taken_out _ _ _ _ _ T _ _ _ _ (pre) r (back.ensures ∙ ap (λ (m : ℕ). back_at m args.b.now) (add-one args.s)) link.ensures
-          (ap (λ (w : ℕ). w / 2199023255552) word.ensures) set_word.ensures join.ensures.0 lower.ensures.0,
-    )
+          (ap (λ (w : ℕ). w / 2199023255552) word.ensures) set_word.ensures join.ensures.joined lower.ensures.lowered;
+    }
