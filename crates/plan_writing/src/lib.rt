@@ -5,6 +5,7 @@
 ghost use Rattle.std.specs.Prelude.{◌≡◌, ◌++◌, cond, true, false, ◌+◌, ◌*◌, ◌<◌, ◌≤◌, length, take};
 ghost use Rattle.std.proofs.lemmas.List.Edits.{sets};
 ghost use Rattle.words.specs.Le.{bytes_of};
+ghost use Rattle.plan_format.specs.Typed.{AreSized};
 ghost use Rattle.plan_format.specs.Writing.{size_of, record_bytes};
 ghost use Rattle.plan_writing.specs.Promises.{WritesPlan};
 ghost use Rattle.plan_writing.specs.Steps.{lower, name_bytes, moved, ready, roomy, headed, placed, stepped, drafted, pen_of, wanted, answered, second_count, head_bytes, tail_bytes};
@@ -253,7 +254,13 @@ fn second_pen(a: WriteAnswer, p: Pen) -> Pen
     }
 }
 
-// ---- the lent list. Both functions here are proved by a walk of their MIR, by hand.
+// ---- the lent list
+
+// Nothing is done: what the type of a list says of each of its records. Proved by a walk of its MIR, by hand.
+fn known(list: &[Station])
+    ensures { AreSized list.now }
+{
+}
 
 // A pass over the first stations of a list, as many as the pen says.
 fn each(list: &[Station], out: &mut [u8], w: Pen) -> Pen
@@ -275,6 +282,7 @@ fn each(list: &[Station], out: &mut [u8], w: Pen) -> Pen
 pub fn write(stations: &[Station], n: u64, out: &mut [u8]) -> WriteAnswer
     ensures { WritesPlan stations.now n out.old result out.new }
 {
+    known(stations);
     let p = first_pen(n, stations.len());
     let q = each(stations, &mut *out, p);
     let a = answer(q, out.len());

@@ -11,4 +11,4 @@ overflow_add-result-3 c = omega (arith, counted_most c.args.s.len)
 pub returns : goal.returns
 unfolding moved
 returns c =
-    rw (c.lowest_of-field.ensures, c.number_out.ensures, c.lowest_of-name.ensures, c.name_out.ensures, c.Counted-of.ensures)
+    rw (c.lowest_of-field.ensures, c.number_out.ensures, c.lowest_of-name.ensures, c.name_out.ensures, c.counted_of.ensures)

@@ -17,12 +17,12 @@ loop-i-preserved c =
     let a = c.args in
     let l = c.loop-i in
     let i = l.i in
-    let h : i < length a.t3 = omega (arith, c.well_formed.1.1.0.1.0.1) in (
+    let h : i < length a.name = omega arith in (
       omega arith,
-      ap (λ (o : List ℕ). set o (a.at + i) (get_or a.t3 i 0)) l.invariant.1
-          ∙ sets_then a.out.now a.at (a.at + i) (take i a.t3) (get_or a.t3 i 0 ∷ [])
-          (ap (λ (m : ℕ). a.at + m) (length-take-le i a.t3 (omega arith))) ∙ ap (sets a.out.now a.at)
-          (sym (take-suc a.t3 i 0 h) ∙ ap (λ (m : ℕ). take m a.t3) (sym (add-one i))),
+      ap (λ (o : List ℕ). set o (a.at + i) (get_or a.name i 0)) l.invariant.1
+          ∙ sets_then a.out.now a.at (a.at + i) (take i a.name) (get_or a.name i 0 ∷ [])
+          (ap (λ (m : ℕ). a.at + m) (length-take-le i a.name (omega arith))) ∙ ap (sets a.out.now a.at)
+          (sym (take-suc a.name i 0 h) ∙ ap (λ (m : ℕ). take m a.name) (sym (add-one i))),
     )
 
 pub returns : goal.returns
@@ -38,7 +38,7 @@ overflow_add-out c = omega arith
 
 pub bounds-out-at : goal.bounds-out-at
 bounds-out-at c =
-    let size : length c.loop-i.out ≡ length c.args.out.now = let a = c.args in ap length c.loop-i.invariant.1 ∙ length-sets a.out.now a.at (take c.loop-i.i a.t3) in
+    let size : length c.loop-i.out ≡ length c.args.out.now = let a = c.args in ap length c.loop-i.invariant.1 ∙ length-sets a.out.now a.at (take c.loop-i.i a.name) in
     let e = size in omega arith
 
 pub overflow_add-i : goal.overflow_add-i
@@ -47,7 +47,3 @@ overflow_add-i c = omega arith
 pub loop-i-smaller : goal.loop-i-smaller
 loop-i-smaller c = omega arith
 
-pub shape_of-out : goal.shape_of-out
-shape_of-out c =
-    let size : length c.loop-i.out ≡ length c.args.out.now = let a = c.args in ap length c.loop-i.invariant.1 ∙ length-sets a.out.now a.at (take c.loop-i.i a.t3) in
-    size
