@@ -36,6 +36,7 @@ def floors():
                 comment = line[1:].strip()
             elif line:
                 name, needs = line.split(":")
+                name = name.split()[0]
                 kit = {"io", "libc", "os", "bytes", "check"}
                 assert set(needs.split()) <= known | kit, name + " stands on a crate that is not below it"
                 known.add(name)
