@@ -35,6 +35,7 @@ use Rattle.engine_committing.proofs.LogFront.{AllLate, Parted, parted, logged_fr
 use Rattle.engine_committing.proofs.CommitChecks.{judged_passed, holds_read}
 
 late_in : (time : ℕ) (cells : List Cell) → AllLate time cells → (y : Held) → In y (held_of cells) → time ≤ (event y).time
+late_in time [] l y m = elim m [ ]
 late_in time (z ∷ cells) l y (Memᴰ.head e) = rw e l.0
 late_in time (z ∷ cells) l y (Memᴰ.tail m) = late_in time cells l.1 y m
 

@@ -76,7 +76,7 @@ module _ {n c : ℕ} {xs : List ℕ} {cells : List Cell} where
   pub first_free_is : {x : ℕ} {fs : List ℕ} → Stands n c xs cells (x ∷ fs) → first_free xs n c ≡ x
   unfolding first_free
   first_free_is {x} S =
-      let f = free.first_free S in
+      let f = free.first_free_lem S in
       rw (le-leb n 256 S.stations, f.0, ne_eqb x (free_ring n) (λ q. omega (arith, f.1)))
 
 -- ---- the log

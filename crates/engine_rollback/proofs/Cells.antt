@@ -19,6 +19,7 @@ has_held (Memᴰ.head e) = Memᴰ.head (ap (λ (z : Cell). z.held) e)
 has_held (Memᴰ.tail m) = Memᴰ.tail (has_held m)
 
 pub held_has : {h : Held} (cells : List Cell) → In h (held_of cells) → (x : ℕ) × Has (cell x h) cells
+held_has [] m = elim m [ ]
 held_has (y ∷ ys) (Memᴰ.head e) = (y.node, Memᴰ.head (ap (λ k. cell y.node k) e))
 held_has (y ∷ ys) (Memᴰ.tail m) = let r = held_has ys m in (r.0, Memᴰ.tail r.1)
 

@@ -44,6 +44,7 @@ event_of n xs x (ran e b) a = a.0
 
 -- no cell of the list is in the ring of run events, so no event of s is run
 none_in : (n s : ℕ) (e : Event) (b : State) (cells : List Cell) → NoneIn n (run_ring n s) cells → In (ran e b) (held_of cells) → e.target ≢ s
+none_in n s e b [] z m t = elim m [ ]
 none_in n s e b (y ∷ ys) z (Memᴰ.head q) t = z.0 (subst (λ h. ring_of n h ≡ run_ring n s) q (ap (run_ring n) t))
 none_in n s e b (y ∷ ys) z (Memᴰ.tail m) t = none_in n s e b ys z.1 m t
 

@@ -53,6 +53,7 @@ inserted x (w ∷ ws) = go (before w x) (inserted x ws)
 
 still_in : {z : Event} (x : Event) (ws : List Event) → Memᴰ z ws → Memᴰ z (insert_sorted x ws)
 unfolding insert_sorted
+still_in x [] m = elim m [ ]
 still_in {z} x (w ∷ ws) m = go (before w x) m (λ k. still_in x ws k)
   where
     go : (v : Bool) → Memᴰ z (w ∷ ws) → (Memᴰ z ws → Memᴰ z (insert_sorted x ws)) → Memᴰ z (cond v (w ∷ insert_sorted x ws) (x ∷ w ∷ ws))

@@ -15,19 +15,31 @@ loop-count-init c = (omega arith, counting_start _ _ _ _ (logged_at _ _ _ _ c.fi
 -- ---- the count ends, at three places
 pub returns-then-c-i : goal.returns-then-c-i
 returns-then-c-i c =
+    let a = c.args in
     let inv = c.loop-count.invariant in
-    (inv.0, counting_ends _ _ _ _ inv.1 (λ some early more. no_slot (finds c.slot_in-i.ensures) c.if-c-i.true some))
+    record {
+      few = inv.0;
+      counts = counting_ends a.n a.c a.b.now a.time inv.1 (λ some early more. no_slot (finds c.slot_in-i.ensures) c.if-c-i.true some);
+    }
 
 pub returns-then-time : goal.returns-then-time
 returns-then-time c =
-    let time-read : let a = c.args in c.time.result ≡ time_at a.n a.b.now c.loop-count.x = read_time _ _ _ ((finds c.slot_in-i.ensures).sound c.if-c-i.false).1 c.time.ensures in
-    let inv = c.loop-count.inv in
-    (inv.0, counting_ends _ _ _ _ inv.1 (λ some early more. omega (arith, time-read, early, c.if-time.true)))
+    let a = c.args in
+    let time-read : c.time.result ≡ time_at a.n a.b.now c.loop-count.x = read_time _ _ _ ((finds c.slot_in-i.ensures).sound c.if-c-i.false).1 c.time.ensures in
+    let inv = c.loop-count.invariant in
+    record {
+      few = inv.0;
+      counts = counting_ends a.n a.c a.b.now a.time inv.1 (λ some early more. omega (arith, time-read, early, c.if-time.true));
+    }
 
 pub returns : goal.returns
 returns c =
+    let a = c.args in
     let inv = c.loop-count.invariant in
-    (inv.0, counting_ends _ _ _ _ inv.1 (λ some early more. omega (arith, more, c.loop-count-test.false)))
+    record {
+      few = inv.0;
+      counts = counting_ends a.n a.c a.b.now a.time inv.1 (λ some early more. omega (arith, more, c.loop-count-test.false));
+    }
 
 -- ---- or goes on
 pub loop-count-preserved : goal.loop-count-preserved

@@ -8,6 +8,4 @@ returns-in_default c =
     none_earlier c.args.time c.lowest.ensures c.in_default.field-0 c.in_default.is
 
 pub returns : goal.returns
-returns c =
-    let t = c.t-1.given in
-    some_earlier c.args.time c.lowest.ensures t.0.0 t.0.1.0 t.0.1.1.0 t.1
+returns c = some_earlier c.args.time c.lowest.ensures c.in-At.station c.in-At.t c.in-At.words c.in-At.is

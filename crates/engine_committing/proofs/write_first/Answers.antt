@@ -19,11 +19,13 @@ loop-k-init c = (omega arith, refl, after_header_same _, writing_start _ _ _ _ _
 
 pub returns-then-c-i : goal.returns-then-c-i
 returns-then-c-i c =
-    let inv = c.loop-k.invariant in (
-      inv.2,
-      writing_stops _ _ _ _ _ inv.3 c.loop-k-test.true (logged_at _ _ _ _ c.first_logged-x.ensures)
-          (no_slot (finds c.slot_in-i.ensures) c.if-c-i.true),
-    )
+    let a = c.args in
+    let inv = c.loop-k.invariant in
+    record {
+      frame = inv.2;
+      writes = writing_stops a.n a.c a.b.now a.count a.out.now inv.3 c.loop-k-test.true (logged_at _ _ _ _ c.first_logged-x.ensures)
+          (no_slot (finds c.slot_in-i.ensures) c.if-c-i.true);
+    }
 
 pub loop-k-preserved : goal.loop-k-preserved
 loop-k-preserved c =
@@ -32,15 +34,19 @@ loop-k-preserved c =
     let gone = c.release.ensures in (
       omega (arith, more),
       ap length c.write.ensures ∙ length_event _ _ _ ∙ inv.1,
-      after_header_on inv.2 gone.0,
+      after_header_on inv.2 gone.frame,
       writing_on _ _ _ _ _ inv.3 more (logged_at _ _ _ _ c.first_logged-x.ensures)
-          (slot_event (finds c.slot_in-i.ensures) _ c.if-c-i.false c.event-e.ensures) c.write.ensures gone.1,
+          (slot_event (finds c.slot_in-i.ensures) _ c.if-c-i.false c.event-e.ensures) c.write.ensures gone.releases,
     )
 
 pub returns : goal.returns
 returns c =
+    let a = c.args in
     let inv = c.loop-k.invariant in
-    (inv.2, writing_ends _ _ _ _ _ inv.3 (omega (arith, inv.0, c.loop-k-test.false)))
+    record {
+      frame = inv.2;
+      writes = writing_ends a.n a.c a.b.now a.count a.out.now inv.3 (omega (arith, inv.0, c.loop-k-test.false));
+    }
 
 pub overflow_cast-k : goal.overflow_cast-k
 overflow_cast-k c = omega arith

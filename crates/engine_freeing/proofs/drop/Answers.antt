@@ -4,4 +4,7 @@ use Rattle.engine_index.proofs.Changes.FromCalls.{drop_made}
 use Rattle.engine_freeing.proofs.drop.Goals as goal
 
 pub returns : goal.returns
-returns c = drop_made _ _ _ _ c.free.ensures
+returns c =
+    let a = c.args in
+    let w = drop_made a.n a.c a.b.now a.x c.free.ensures in
+    record { frame = w.0; drops = w.1.0; spares = w.1.1.0; sets = w.1.1.1 }

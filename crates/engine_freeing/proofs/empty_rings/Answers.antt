@@ -21,7 +21,7 @@ pub loop-s-preserved : goal.loop-s-preserved
 loop-s-preserved c =
     let loop = c.loop-s in
     let make-empty = c.make_empty in
-    (omega arith, make-empty.auto.0 ∙ loop.invariant.1, emptied_on _ _ _ _ loop.invariant.2 make-empty.ensures)
+    (omega arith, make-empty.auto.b ∙ loop.invariant.1, emptied_on _ _ _ _ loop.invariant.2 make-empty.ensures)
 
 pub shape_of-b : goal.shape_of-b
 shape_of-b c = c.loop-s.invariant.1

@@ -24,7 +24,7 @@ loop-i-preserved c =
     let i = c.insert_after in
     let p = c.requires in (
       omega arith,
-      i.auto.0 ∙ c.set_number.auto.b ∙ l.1,
+      i.auto.b ∙ c.set_number.auto.b ∙ l.1,
       filled_on _ _ _ _ _ l.2 (c.set_number.ensures.0 (lit< tt))
           (node_in _ _ p.0 p.1 _ (omega (arith, c.loop-i-test.true)) c.node_of-x.ensures) i.ensures,
     )

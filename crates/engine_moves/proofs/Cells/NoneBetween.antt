@@ -25,11 +25,11 @@ none_in : (n u : ℕ) (cells : List Cell) → ((y : Cell) → Has y cells → ri
 none_in n u [] f = tt
 none_in n u (y ∷ cells) f = (f y (Memᴰ.head refl), none_in n u cells (λ z m. f z (Memᴰ.tail m)))
 
-all_before : (e : Event) {cells : List Cell} {y : Cell} → AllBefore cells e → Has y cells → before (event y.held) e ≡ true
+all_before : (e : Event) {y : Cell} {cells : List Cell} → AllBefore cells e → Has y cells → before (event y.held) e ≡ true
 all_before e a (Memᴰ.head q) = rw q a.0
 all_before e a (Memᴰ.tail m) = all_before e a.1 m
 
-pub all_after : (e : Event) {cells : List Cell} {y : Cell} → AllAfter e cells → Has y cells → before e (event y.held) ≡ true
+pub all_after : (e : Event) {y : Cell} {cells : List Cell} → AllAfter e cells → Has y cells → before e (event y.held) ≡ true
 all_after e a (Memᴰ.head q) = rw q a.0
 all_after e a (Memᴰ.tail m) = all_after e a.1 m
 

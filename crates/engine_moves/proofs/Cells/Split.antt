@@ -21,6 +21,7 @@ pub record Split (y : Cell) (cells : List Cell) : Type 0 where
   pub whole : cells ≡ front ++ y ∷ back
 
 pub split : (y : Cell) (cells : List Cell) → Has y cells → Split y cells
+split y [] m = elim m [ ]
 split y (z ∷ cells) (Memᴰ.head e) = record { front = []; back = cells; whole = rw e }
 split y (z ∷ cells) (Memᴰ.tail m) =
     let r = split y cells m in
@@ -103,9 +104,11 @@ held_map [] = refl
 held_map (y ∷ ys) = ap (λ l. y.held ∷ l) (held_map ys)
 
 pub held_in : (cells : List Cell) (y : Cell) → Has y cells → In y.held (held_of cells)
+held_in [] y m = elim m [ ]
 held_in (z ∷ cells) y (Memᴰ.head e) = Memᴰ.head (ap (λ (c : Cell). c.held) e)
 held_in (z ∷ cells) y (Memᴰ.tail m) = Memᴰ.tail (held_in cells y m)
 
 pub in_held : (cells : List Cell) (h : Held) → In h (held_of cells) → (x : ℕ) × Has (cell x h) cells
+in_held [] h m = elim m [ ]
 in_held (z ∷ cells) h (Memᴰ.head e) = (z.node, Memᴰ.head (ap (cell z.node) e))
 in_held (z ∷ cells) h (Memᴰ.tail m) = let r = in_held cells h m in (r.0, Memᴰ.tail r.1)

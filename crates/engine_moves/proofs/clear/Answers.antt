@@ -9,8 +9,14 @@ slice_bounds-open-start c = part_within _ _ _ c.calendar_start-start.ensures c.f
 
 pub returns-then-fits : goal.returns-then-fits
 returns-then-fits c =
-    cleared _ _ _ _ _ _ _ c.calendar_start-start.ensures (part_within _ _ _ c.calendar_start-start.ensures c.fits.ensures c.if-fits.true)
-    (goal.at.returns-then-fits c).After-open.«open».auto.1.1.1.0 (goal.at.returns-then-fits c).After-open.«open».ensures c.clear.ensures.frame c.clear.ensures.clears
+    let a = c.args in
+    let w =
+    cleared a.n a.c a.arity a.width a.b.now _ _ c.calendar_start-start.ensures (part_within _ _ _ c.calendar_start-start.ensures c.fits.ensures c.if-fits.true)
+    c.«open».auto.b c.«open».ensures c.clear.ensures.frame c.clear.ensures.clears in
+    record { frame = w.0; clears = w.1 }
 
 pub returns-else-fits : goal.returns-else-fits
-returns-else-fits c = clears_none _ _ _ _ _ c.fits.ensures c.if-fits.false
+returns-else-fits c =
+    let a = c.args in
+    let w = clears_none a.n a.c a.arity a.width a.b.now c.fits.ensures c.if-fits.false in
+    record { frame = w.0; clears = w.1 }

@@ -10,8 +10,14 @@ slice_bounds-advance-start c = part_within _ _ _ c.calendar_start-start.ensures 
 
 pub returns-then-fits : goal.returns-then-fits
 returns-then-fits c =
-    raised _ _ _ _ _ c.calendar_start-start.ensures (part_within _ _ _ c.calendar_start-start.ensures c.fits.ensures c.if-fits.true)
-    c.advance.auto.b c.advance.ensures
+    let a = c.args in
+    let w =
+    raised a.n a.c a.floor a.b.now _ c.calendar_start-start.ensures (part_within _ _ _ c.calendar_start-start.ensures c.fits.ensures c.if-fits.true)
+    c.advance.auto.b c.advance.ensures in
+    record { frame = w.0; raises = w.1 }
 
 pub returns-else-fits : goal.returns-else-fits
-returns-else-fits c = raises_none _ _ _ _ (nothing_fits _ _ _ c.fits.ensures c.if-fits.false)
+returns-else-fits c =
+    let a = c.args in
+    let w = raises_none a.n a.c a.floor a.b.now (nothing_fits _ _ _ c.fits.ensures c.if-fits.false) in
+    record { frame = w.0; raises = w.1 }

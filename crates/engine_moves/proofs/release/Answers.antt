@@ -4,4 +4,8 @@ use borrow.Author.Rules.{rules}
 use Rattle.engine_moves.proofs.release.Goals as goal
 
 pub returns : goal.returns
-returns c = release_made _ _ _ c.release.ensures
+returns c =
+    let a = c.args in
+    let r = c.release.ensures in
+    let w = release_made a.n a.c a.x (r.frame, (r.releases, r.spares)) in
+    record { frame = w.0; releases = w.1 }

@@ -15,20 +15,23 @@ in_range (inl o) l k = omega arith
 in_range (inr o) l k = omega arith
 
 pub returns-then-n-t : goal.returns-then-n-t
-returns-then-n-t c = (after_header_same _, (omega arith, (adds_out _ _ _ (omega arith), (λ _. (refl, refl, refl)))))
+returns-then-n-t c =
+    let a = c.args in
+    record { frame = after_header_same a.b.now; few = omega arith; adds = adds_out a.n a.c a.b.now (omega arith); none = λ _. (refl, refl, refl) }
 
 pub returns-then-n-gt256 : goal.returns-then-n-gt256
-returns-then-n-gt256 c = (after_header_same _, (omega arith, (adds_else _ _ _ (omega arith), (λ _. (refl, refl, refl)))))
+returns-then-n-gt256 c =
+    let a = c.args in
+    record { frame = after_header_same a.b.now; few = omega arith; adds = adds_else a.n a.c a.b.now (omega arith); none = λ _. (refl, refl, refl) }
 
 pub returns : goal.returns
 returns c =
     let a = c.args in
     let u = c.roll_back-undone.ensures in
     let h = c.hold-node.ensures in
-    (
-      after_header_on u.0 h.0,
-      (
-        omega (arith, u.1.0, runs_few a.n a.b.now a.c),
-        (adds _ _ _ u.1.1 h.1.0, (λ o. absurd (in_range o c.if-n-t.false c.if-n-gt256.false))),
-      ),
-    )
+    record {
+      frame = after_header_on u.frame h.frame;
+      few = omega (arith, u.fewer, runs_few a.n a.b.now a.c);
+      adds = adds a.n a.c a.b.now u.undoes h.takes;
+      none = λ o. absurd (in_range o c.if-n-t.false c.if-n-gt256.false);
+    }

@@ -7,10 +7,12 @@ use Rattle.engine_rollback.proofs.FromCalls.{removes, removes_else}
 use Rattle.engine_rollback.proofs.remove.Goals as goal
 
 pub returns-then-n-gt256 : goal.returns-then-n-gt256
-returns-then-n-gt256 c = (after_header_same _, (omega arith, removes_else _ _ _ (omega arith)))
+returns-then-n-gt256 c =
+    let a = c.args in
+    record { frame = after_header_same a.b.now; few = omega arith; removes = removes_else a.n a.c a.b.now (omega arith) }
 
 pub returns : goal.returns
 returns c =
     let a = c.args in
     let u = c.remove_below.ensures in
-    (u.0, (omega (arith, u.1.0, runs_few a.n a.b.now a.c), removes _ _ _ u.1.1.1))
+    record { frame = u.frame; few = omega (arith, u.fewer, runs_few a.n a.b.now a.c); removes = removes a.n a.c a.b.now u.removes }

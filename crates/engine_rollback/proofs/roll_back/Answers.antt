@@ -5,7 +5,7 @@ use Rattle.engine_events.proofs.AfterHeader.{after_header_same}
 use Rattle.engine_rollback.proofs.roll_back.Goals as goal
 
 pub returns-then-settled : goal.returns-then-settled
-returns-then-settled c = (after_header_same _, (omega arith, c.settled.ensures c.if-settled.true))
+returns-then-settled c = record { frame = after_header_same c.args.b.now; fewer = omega arith; undoes = c.settled.ensures c.if-settled.true }
 
 pub returns : goal.returns
-returns c = c.undo_from.ensures
+returns c = let u = c.undo_from.ensures in record { frame = u.frame; fewer = u.fewer; undoes = u.undoes }

@@ -6,10 +6,9 @@ use borrow.Author.Rules.{rules}
 use Rattle.engine_running.proofs.add_send.Goals as goal
 
 pub returns-in-Nothing : goal.returns-in-Nothing
-returns-in-Nothing c = (after_header_same _, (omega arith, rw c.in-Nothing.is (refl, refl, refl)))
+returns-in-Nothing c = record { frame = after_header_same c.args.b.now; few = omega arith; adds = rw c.in-Nothing.is (refl, refl, refl) }
 
 pub returns-in-Sends : goal.returns-in-Sends
 returns-in-Sends c =
-    let add = c.add in
-    let s = c.s-1 in
-    (add.ensures.0, (add.ensures.1.0, rw s.given.1 add.ensures.1.1.0))
+    let add = c.add.ensures in
+    record { frame = add.frame; few = add.few; adds = rw c.in-Sends.is add.adds }

@@ -12,7 +12,7 @@ shape_of-b-in-End c =
 
 pub shape_of-out-in-End : goal.shape_of-out-in-End
 shape_of-out-in-End c =
-    c.turn.auto.1.1.0 ∙ c.loop-left.invariant.1
+    c.turn.auto.out ∙ c.loop-left.invariant.1
 
 pub returns-in-End : goal.returns-in-End
 returns-in-End c =
@@ -21,7 +21,7 @@ returns-in-End c =
 pub loop-left-preserved : goal.loop-left-preserved
 loop-left-preserved c =
     let inv = c.loop-left.invariant in
-    (c.turn.auto.b ∙ inv.0, c.turn.auto.1.1.0 ∙ inv.1, turned_more (omega arith) inv.2 c.turn.ensures)
+    (c.turn.auto.b ∙ inv.0, c.turn.auto.out ∙ inv.1, turned_more (omega arith) inv.2 c.turn.ensures)
 
 pub returns : goal.returns
 returns c = turns_out (omega arith) c.loop-left.invariant.2
