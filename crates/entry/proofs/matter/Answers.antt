@@ -14,4 +14,4 @@ returns-in-3 c = rw c.in-3.is
 
 pub returns-in_default : goal.returns-in_default
 unfolding matter_or
-returns-in_default c = let r = c.in_default.rest in rw (ne_eqb _ 2 r.0.1, ne_eqb _ 3 r.1)
+returns-in_default c = let r = c.in_default.in_default-own.rest in rw (ne_eqb _ 2 r.0.1, ne_eqb _ 3 r.1)
