@@ -131,6 +131,7 @@ one_none n (x ∷ xs) a = one_other n x xs a.0 ∙ ap (λ l. x ∷ l) (one_none 
 pub without_insert : (n : ℕ) (x : Event) (xs ws : List Event) → Memᴰ x xs → x.number ≡ n → Numbered xs
     → insert_all_sorted xs ws ≡ insert_sorted x (insert_all_sorted (without (n ∷ []) xs) ws)
 unfolding insert_all_sorted
+without_insert n x [] ws m e d = elim m [ ]
 without_insert n x (y ∷ ys) ws (Memᴰ.head q) e d =
     let k : y.number ≡ n = ap (λ z. z.number) (sym q) ∙ e in
     rw (one_this n y ys k, one_none n ys (all_map (λ z f j. f (k ∙ sym j)) ys d.0), q)

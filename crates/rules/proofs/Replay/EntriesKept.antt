@@ -30,6 +30,7 @@ found_stays z (U.past_ran f) l (Memᴰ.tail m) = Memᴰ.tail (found_stays z f l 
 
 pub delete_stays : (z : Held) (y : Event) (h : List Held) → Lt (event z) y → In z h → In z (delete y h)
 unfolding delete
+delete_stays z y [] l m = elim m [ ]
 delete_stays z y (w ∷ h) l (Memᴰ.head p) = rw (same_lt (subst (λ v. Lt (event v) y) p l)) (Memᴰ.head p)
 delete_stays z y (w ∷ h) l (Memᴰ.tail m) = go (same (event w) y) (delete_stays z y h l m)
   where
@@ -39,6 +40,7 @@ delete_stays z y (w ∷ h) l (Memᴰ.tail m) = go (same (event w) y) (delete_sta
 
 pub place_stays : (z : Held) (y : Event) (h : List Held) → In z h → In z (place y h)
 unfolding place
+place_stays z y [] m = elim m [ ]
 place_stays z y (w ∷ h) (Memᴰ.head p) = go (before (event w) y)
   where
     go : (v : Bool) → In z (cond v (w ∷ place y h) (unrun y ∷ w ∷ h))

@@ -38,6 +38,7 @@ in_unrun P (unrun x ∷ h) f = (f x (Memᴰ.head refl), in_unrun P h (λ z m. f 
 in_unrun P (ran x b ∷ h) f = in_unrun P h (λ z m. f z (Memᴰ.tail m))
 
 pub unrun_in : (P : Event → Type 0) (z : Event) (h : List Held) → In (unrun z) h → AllUnrun P h → P z
+unrun_in P z [] m q = elim m [ ]
 unrun_in P z (unrun x ∷ h) (Memᴰ.head e) q = let k : z ≡ x = cc in rw k q.0
 unrun_in P z (unrun x ∷ h) (Memᴰ.tail m) q = unrun_in P z h m q.1
 unrun_in P z (ran x b ∷ h) (Memᴰ.head e) q = let k : ◌≡◌ {A = ℕ} 0 1 = cc in absurd (omega arith)
@@ -99,6 +100,7 @@ first_least {s} {x} (C.past_ran {y = y} {a = b} {h = h} f) = least_ran s y b h �
 
 -- the station of an unrun event has a first
 pub unrun_first : (z : Event) (h : List Held) → In (unrun z) h → (x : Event) × First z.target x h
+unrun_first z [] m = elim m [ ]
 unrun_first z (y ∷ h) (Memᴰ.head e) = (z, subst (λ v. First z.target z (v ∷ h)) e (C.here refl))
 unrun_first z (ran y b ∷ h) (Memᴰ.tail m) = let i = unrun_first z h m in (i.0, C.past_ran i.1)
 unrun_first z (unrun y ∷ h) (Memᴰ.tail m) = go (which y.target z.target) (unrun_first z h m)

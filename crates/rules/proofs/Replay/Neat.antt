@@ -33,6 +33,7 @@ in_run Q (unrun x ∷ h) f = in_run Q h (λ z a m. f z a (Memᴰ.tail m))
 in_run Q (ran x b ∷ h) f = (f x b (Memᴰ.head refl), in_run Q h (λ z a m. f z a (Memᴰ.tail m)))
 
 pub run_in : (Q : Event → State → Type 0) (z : Event) (a : State) (h : List Held) → In (ran z a) h → EachRun Q h → Q z a
+run_in Q z a [] m q = elim m [ ]
 run_in Q z a (unrun x ∷ h) (Memᴰ.head e) q = let k : ◌≡◌ {A = ℕ} 0 1 = cc in absurd (omega arith)
 run_in Q z a (unrun x ∷ h) (Memᴰ.tail m) q = run_in Q z a h m q
 run_in Q z a (ran x b ∷ h) (Memᴰ.head e) q = let k : z ≡ x = cc in let l : a ≡ b = cc in rw (k, l) q.0
@@ -98,6 +99,7 @@ place_strict x (y ∷ h) d o = go (cmp (event y) x) d.0 (place_strict x h d.1 o.
 
 -- an event is held once, and is run from one state
 pub one_state : (x : Event) (a b : State) (h : List Held) → Strict h → In (ran x a) h → In (ran x b) h → a ≡ b
+one_state x a b [] o m _ = elim m [ ]
 one_state x a b (y ∷ h) o (Memᴰ.head e) (Memᴰ.head f) = cc
 one_state x a b (y ∷ h) o (Memᴰ.head e) (Memᴰ.tail m) =
     absurd (clash (subst (λ w. Lt (event w) x) (sym e) (all_in (λ z. Lt (event y) (event z)) m o.0)) (irr x))
@@ -137,6 +139,7 @@ unfolding unmark
 unmark_past x y h l = rw (same_lt l)
 
 unmark_blocked : (x : Event) (b : State) (h : List Held) → Strict h → Blocked h → In (ran x b) h → NoneLater x h → Blocked (unmark x h)
+unmark_blocked x b [] o k m n = elim m [ ]
 unmark_blocked x b (y ∷ h) o k (Memᴰ.head e) n =
     subst (λ w. Blocked (unmark x (w ∷ h))) e (rw (unmark_here x b h) (none_run x h (after_none x y h n) lie, beyond y k))
   where
@@ -196,6 +199,7 @@ place_neat p x h l d c k = record { strict = place_strict x h d k.strict; blocke
 -- an event that is run, with no later one of its target run, is the latest
 pub is_latest : (s : ℕ) (x y : Event) (b : State) (h : List Held) → Strict h → In (ran y b) h → y.target ≡ s → Ge y x → NoneLater y h
     → Latest s x y b h (unmark y h)
+is_latest s x y b [] o m t g n = elim m [ ]
 is_latest s x y b (w ∷ h) o (Memᴰ.head e) t g n = subst (λ v. Latest s x y b (v ∷ h) (unmark y (v ∷ h))) e (rw (unmark_here y b h) (U.here t g clear))
   where
     lie : All (λ z. Lt y (event z)) h
@@ -212,6 +216,7 @@ is_latest s x y b (ran w a ∷ h) o (Memᴰ.tail m) t g n =
 
 -- an unrun event has no run event of its target at or after it
 pub unrun_clear : (x : Event) (h : List Held) → Strict h → Blocked h → In (unrun x) h → Clear x.target x h
+unrun_clear x [] o k m = elim m [ ]
 unrun_clear x (unrun w ∷ h) o k (Memᴰ.head e) =
     let f : w ≡ x = cc in
     in_run (λ z a. z.target ≡ x.target → Lt z x) h (λ z a m t. absurd (run_in (λ v c. v.target ≢ w.target) z a h m k.0 (t ∙ ap (λ v. v.target) (sym f))))
@@ -221,6 +226,7 @@ unrun_clear x (ran w a ∷ h) o k (Memᴰ.tail m) = ((λ _. all_in (λ z. Lt w (
 
 -- where x was made unrun, no other run event is the same
 pub unmark_differs : (x : Event) (b : State) (z : Event) (a : State) (h : List Held) → Strict h → In (ran x b) h → In (ran z a) (unmark x h) → Differ z x
+unmark_differs x b z a [] o m i = elim m [ ]
 unmark_differs x b z a (y ∷ h) o (Memᴰ.head e) m = go (rw (unmark_here x b h) at (subst (λ w. In (ran z a) (unmark x (w ∷ h))) (sym e) m))
   where
     go : In (ran z a) (unrun x ∷ h) → Differ z x

@@ -63,6 +63,7 @@ unfolding unmark
 unmark_this x b h = rw (same_self x)
 
 pub unmark_first : (x : Event) (b : State) (h : List Held) → Strict h → In (ran x b) h → NoneBefore x.target x h → First x.target x (unmark x h)
+unmark_first x b [] o m a = elim m [ ]
 unmark_first x b (y ∷ h) o (Memᴰ.head e) a = subst (λ v. First x.target x (unmark x (v ∷ h))) e (rw (unmark_this x b h) (C.here refl))
 unmark_first x b (unrun y ∷ h) o (Memᴰ.tail m) a =
     let l : Lt y x = all_in (λ z. Lt y (event z)) m o.0 in
@@ -73,6 +74,7 @@ unmark_first x b (ran y c ∷ h) o (Memᴰ.tail m) a =
 
 -- so it is where nothing of a station is run after an unrun event of it
 pub run_none_before : (x : Event) (b : State) (h : List Held) → Strict h → Blocked h → In (ran x b) h → NoneBefore x.target x h
+run_none_before x b [] o k m = elim m [ ]
 run_none_before x b (ran y c ∷ h) o k (Memᴰ.head e) =
     let q : y ≡ x = cc in
     in_unrun (λ z. z.target ≡ x.target → Ge z x) h (λ z m _. asym (subst (λ v. Lt v z) q (all_in (λ v. Lt y (event v)) m o.0)))

@@ -132,6 +132,7 @@ update_swap f s t v a n = fun_ext (λ u. go u (which u s) (which u t))
 
 -- a run event after x has another target
 other_target : {s : ℕ} {x : Event} (h : List Held) (y : Event) (c : State) → First s x h → Strict h → Blocked h → In (ran y c) h → Lt x y → y.target ≢ s
+other_target [] y c m o k _ l = elim m [ ]
 other_target {s} {x} (unrun w ∷ h) y c (C.here e) o k (Memᴰ.head i) l = let z : ◌≡◌ {A = ℕ} 0 1 = cc in absurd (omega arith)
 other_target {s} {x} (unrun w ∷ h) y c (C.here e) o k (Memᴰ.tail m) l = subst (λ t. y.target ≢ t) e (run_in (λ z a. z.target ≢ x.target) y c h m k.0)
 other_target {s} {x} (unrun w ∷ h) y c (C.past_unrun e f) o k (Memᴰ.head i) l = let z : ◌≡◌ {A = ℕ} 0 1 = cc in absurd (omega arith)
