@@ -18,11 +18,11 @@ returns-in_default c = rw (ne_eqb _ 0 c.if-station-eq0.false, ← c.period.ensur
 pub returns-in_default-send : goal.returns-in_default-send
 unfolding run_read
 returns-in_default-send c =
-    rw (ne_eqb _ 0 c.if-station-eq0.false, ← c.period.ensures, chain _ _ _ _ _ _ c.send.ensures _ c.in-Done.is)
+    rw (ne_eqb _ 0 c.if-station-eq0.false, ← c.period.ensures, chain _ _ _ _ _ _ (c.send.ensures.said, c.send.ensures.one) _ c.in-Done.is)
     (ap (ahead _) (ap said (sym c.in_default-send.is) ∙ c.send-2.ensures.said))
 
 pub returns : goal.returns
 unfolding run_read
 returns c =
-    rw (ne_eqb _ 0 c.if-station-eq0.false, ← c.period.ensures, chain _ _ _ _ _ _ c.send.ensures _ c.in-Done.is)
-    (ap (ahead _) (single _ _ c.send-2.ensures _ c.in-Done-send.is))
+    rw (ne_eqb _ 0 c.if-station-eq0.false, ← c.period.ensures, chain _ _ _ _ _ _ (c.send.ensures.said, c.send.ensures.one) _ c.in-Done.is)
+    (ap (ahead _) (single _ _ (c.send-2.ensures.said, c.send-2.ensures.one) _ c.in-Done-send.is))

@@ -7,4 +7,4 @@ use Rattle.line_running.proofs.silent.Goals as goal
 
 pub returns : goal.returns
 unfolding silent
-returns c = (sym (kept _ (omega arith) (omega arith) (omega arith)), λ e h. cc)
+returns c = record { said = sym (kept _ (omega arith) (omega arith) (omega arith)); one = λ e h. cc }
