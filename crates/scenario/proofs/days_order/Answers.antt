@@ -11,7 +11,7 @@ use Rattle.scenario.proofs.days_order.Goals as goal
 
 pub returns-in_default : goal.returns-in_default
 returns-in_default c =
-    refuses_days _ c.requires (λ d f q. no_last _ end c.last_number.ensures (absent _ c.in_default.keys2) [] d refl tt (omega arith) q)
+    refuses_days _ c.requires (λ d f q. no_last _ end c.last_number.ensures c.in_default.is [] d refl tt (omega arith) q)
 
 pub returns-then-days-lt1 : goal.returns-then-days-lt1
 returns-then-days-lt1 c =

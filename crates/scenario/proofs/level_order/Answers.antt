@@ -12,13 +12,13 @@ use Rattle.scenario.proofs.level_order.Goals as goal
 pub returns-in_default : goal.returns-in_default
 returns-in_default c =
     refuses_level _ c.requires
-    (λ station time mm f q. no_next _ end c.number_after.ensures (absent _ c.in_default.keys2) [] station (time ∷ mm ∷ []) refl tt f.0 q)
+    (λ station time mm f q. no_next _ end c.number_after.ensures c.in_default.is [] station (time ∷ mm ∷ []) refl tt f.0 q)
 
 pub returns-in_default-number_after : goal.returns-in_default-number_after
 returns-in_default-number_after c =
     refuses_level _ c.requires
     (λ station time mm f q.
-    no_next _ (more c.number_after.ensures c.in-Value.is end) c.number_after-2.ensures (absent _ c.in_default-number_after.keys2)
+    no_next _ (more c.number_after.ensures c.in-Value.is end) c.number_after-2.ensures c.in_default-number_after.is
     (station ∷ []) time (mm ∷ []) refl ((f.0, tt)) f.1 q)
 
 pub returns-in_default-last_number : goal.returns-in_default-last_number
@@ -26,7 +26,7 @@ returns-in_default-last_number c =
     refuses_level _ c.requires
     (λ station time mm f q.
     no_last _ (more c.number_after.ensures c.in-Value.is (more c.number_after-2.ensures c.in-Value-number_after.is end))
-    c.last_number.ensures (absent _ c.in_default-last_number.keys2) (station ∷ time ∷ []) mm refl ((f.0, (f.1, tt))) f.2 q)
+    c.last_number.ensures c.in_default-last_number.is (station ∷ time ∷ []) mm refl ((f.0, (f.1, tt))) f.2 q)
 
 -- ---- all three are there
 pub returns : goal.returns

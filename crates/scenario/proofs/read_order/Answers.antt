@@ -11,13 +11,13 @@ use Rattle.scenario.proofs.read_order.Goals as goal
 pub returns-in_default : goal.returns-in_default
 returns-in_default c =
     refuses_read _ c.requires
-    (λ station time f q. no_next _ end c.number_after.ensures (absent _ c.in_default.keys2) [] station (time ∷ []) refl tt f.0 q)
+    (λ station time f q. no_next _ end c.number_after.ensures c.in_default.is [] station (time ∷ []) refl tt f.0 q)
 
 pub returns-in_default-last_number : goal.returns-in_default-last_number
 returns-in_default-last_number c =
     refuses_read _ c.requires
     (λ station time f q.
-    no_last _ (more c.number_after.ensures c.in-Value.is end) c.last_number.ensures (absent _ c.in_default-last_number.keys2)
+    no_last _ (more c.number_after.ensures c.in-Value.is end) c.last_number.ensures c.in_default-last_number.is
     (station ∷ []) time refl ((f.0, tt)) f.1 q)
 
 pub returns : goal.returns
