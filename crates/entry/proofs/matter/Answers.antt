@@ -1,5 +1,4 @@
 -- Each way through the code settles the two tests on the kind.
-use borrow.Author.Rules.{rules}
 use borrow.Author.Tests.{ne_eqb}
 use Rattle.entry.specs.Entry.{matter_or}
 use Rattle.entry.proofs.matter.Goals as goal

@@ -1,6 +1,5 @@
 -- The fields that were loaded are those of the definition.
 use mathlib.Core.Path.{◌∙◌}
-use borrow.Author.Rules.{rules}
 use Rattle.entry.specs.Entry.{event_at, matter_or}
 use Rattle.entry.proofs.read.Goals as goal
 

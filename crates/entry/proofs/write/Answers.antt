@@ -2,7 +2,6 @@
 use Prim.Native.Nat.{◌+◌}
 use Rattle.words.specs.Le.{store_at}
 use mathlib.Core.Path.{◌∙◌, ap}
-use borrow.Author.Rules.{rules}
 use Rattle.entry.specs.Entry.{put_event}
 use Rattle.entry.proofs.write.Goals as goal
 
