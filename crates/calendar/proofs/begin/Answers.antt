@@ -28,6 +28,6 @@ returns c =
     let set-word5 = c.set_word-5 in
     let set-word6 = c.set_word-6 in
     let set-word7 = c.set_word-7 in
-    begun args.b.now set_word.new.0 set-word2.new.0 set-word3.new.0 set-word4.new.0 set-word5.new.0 set-word6.new.0
-    set-word7.new.0 args.n args.width args.leaves pre.0 pre.1 pre.2 set_word.ensures set-word2.ensures set-word3.ensures
+    begun args.b.now set_word.new.b set-word2.new.b set-word3.new.b set-word4.new.b set-word5.new.b set-word6.new.b
+    set-word7.new.b args.n args.width args.leaves pre.0 pre.1 pre.2 set_word.ensures set-word2.ensures set-word3.ensures
     set-word4.ensures set-word5.ensures set-word6.ensures set-word7.ensures

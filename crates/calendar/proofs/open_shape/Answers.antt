@@ -74,5 +74,5 @@ returns c =
     let begin = c.begin in
     open_done args.b.now args.n args.shape.arity args.width (right_in args.row args.shape pre.0 pre.1) if1.false
     if2.false if3.false if4.false args.shape.leaves pre.1.leaves_is if5.false (right_sizes args.row args.shape pre.0 pre.1)
-    clear.new.0 begin.new.0 (right_clears args.row args.shape args.b.now clear.new.0 pre.0 pre.1 clear.ensures)
+    clear.new.b begin.new.b (right_clears args.row args.shape args.b.now clear.new.b pre.0 pre.1 clear.ensures)
     begin.ensures

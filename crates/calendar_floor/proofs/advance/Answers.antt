@@ -32,5 +32,5 @@ returns c =
     let if3 = c.if-early in
     let rise = c.rise in
     let up = rw word.ensures at if2.false in
-    advance_done args.b.now args.floor if1.false up rise.new.0 (λ S. sym if3.false ∙ early.ensures S)
+    advance_done args.b.now args.floor if1.false up rise.new.b (λ S. sym if3.false ∙ early.ensures S)
     (λ S. rise.ensures _ S (none_before args.b.now args.floor S (sym if3.false ∙ early.ensures S)) up)

@@ -18,7 +18,7 @@ returns-then-block_leaves-l c =
     let leaf = c.leaf-l in
     λ a S W.
     let ed = due.ensures.0 pre in
-    let el = leaf.ensures.1 a S.table.arity_is S.header (fetch_floor a args.b.now args.s due.result leaf.result pre S W ed) in
+    let el = leaf.ensures.leaf a S.table.arity_is S.header (fetch_floor a args.b.now args.s due.result leaf.result pre S W ed) in
     moved_none a args.b.now args.s due.result leaf.result pre S W ed el c.block_leaves.result
     c.block_leaves.ensures.0 c.if-block_leaves-l.true
 
@@ -31,7 +31,7 @@ returns c =
     let put = c.put in
     λ a S W.
     let ed = due.ensures.0 pre in
-    let el = leaf.ensures.1 a S.table.arity_is S.header (fetch_floor a args.b.now args.s due.result leaf.result pre S W ed) in
+    let el = leaf.ensures.leaf a S.table.arity_is S.header (fetch_floor a args.b.now args.s due.result leaf.result pre S W ed) in
     let nz = not_absent a args.b.now args.s due.result leaf.result pre S W ed in
-    moved_put a args.b.now args.s due.result leaf.result pre S W ed el put.new.0 put.ensures.0
-    (put.ensures.1.1 a S.table pre (omega arith) (omega (arith, S.table.until args.s pre)))
+    moved_put a args.b.now args.s due.result leaf.result pre S W ed el put.new.b put.ensures.kept
+    (put.ensures.placed a S.table pre (omega arith) (omega (arith, S.table.until args.s pre)))

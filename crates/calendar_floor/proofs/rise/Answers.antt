@@ -9,5 +9,5 @@ returns-then-floor-word c =
     let pre = c.requires in
     let word = c.word in
     let set_word = c.set_word in
-    λ a S A up. risen_within a args.b.now set_word.new.0 args.floor set_word.ensures pre S A up
+    λ a S A up. risen_within a args.b.now set_word.new.b args.floor set_word.ensures pre S A up
     (rw (← word.ensures) c.if-floor-word.true)

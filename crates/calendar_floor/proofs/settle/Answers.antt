@@ -20,7 +20,7 @@ returns-then-s-ge256 c =
 pub loop-from-smaller : goal.loop-from-smaller
 loop-from-smaller c =
     let later = c.later-s in
-    omega (arith, later.ensures.0 c.if-s-ge256.false)
+    omega (arith, later.ensures.from c.if-s-ge256.false)
 
 pub loop-from-preserved : goal.loop-from-preserved
 loop-from-preserved c =
@@ -30,8 +30,8 @@ loop-from-preserved c =
     let fetch = c.fetch in (
       omega arith,
       search rules,
-      λ a. settle_step a args.b.now loop.b fetch.new.0 loop.from later.result (loop.invariant.2 a)
-          (later.ensures.1.1 a) c.if-s-ge256.false (fetch.ensures a),
+      λ a. settle_step a args.b.now loop.b fetch.new.b loop.from later.result (loop.invariant.2 a)
+          (later.ensures.first a) c.if-s-ge256.false (fetch.ensures a),
     )
 
 pub returns : goal.returns

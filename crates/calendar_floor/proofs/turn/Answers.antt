@@ -83,7 +83,7 @@ returns c =
     let set-word5 = c.set_word-5 in
     let settle = c.settle in
     λ a S A up.
-    risen_turned args.b.now set_word.new.0 set-word2.new.0 set-word3.new.0 set-word4.new.0 set-word5.new.0
+    risen_turned args.b.now set_word.new.b set-word2.new.b set-word3.new.b set-word4.new.b set-word5.new.b
     word.result block-leaves.result args.floor word.ensures block-leaves.ensures.0 pre if2.false block-leaves.ensures.2
-    set_word.ensures set-word2.ensures set-word3.ensures set-word4.ensures set-word5.ensures a S A up settle.new.0
+    set_word.ensures set-word2.ensures set-word3.ensures set-word4.ensures set-word5.ensures a S A up settle.new.b
     (settle.ensures a)

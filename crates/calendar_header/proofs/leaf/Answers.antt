@@ -8,19 +8,19 @@ use Rattle.calendar_header.proofs.leaf.Goals as goal
 pub returns-then-word-time : goal.returns-then-word-time
 returns-then-word-time c =
     let args = c.args in
-    let block-leaves = c.block_leaves-n in (
-      omega (arith, block-leaves.ensures.0),
-      λ a ea H f. leaf_after a args.b.now ea H args.time f c.word.result block-leaves.result c.word.ensures
-          block-leaves.ensures.0 c.if-word-time.true,
-    )
+    let block-leaves = c.block_leaves-n in record {
+      within = omega (arith, block-leaves.ensures.0);
+      leaf = λ a ea H f. leaf_after a args.b.now ea H args.time f c.word.result block-leaves.result c.word.ensures
+          block-leaves.ensures.0 c.if-word-time.true;
+    }
 
 pub returns-then-time-start : goal.returns-then-time-start
 returns-then-time-start c =
     let args = c.args in
-    let block-leaves = c.block_leaves-n in (
-      omega (arith, block-leaves.ensures.0),
-      λ a ea H f. absurd (omega (arith, start_before a args.b.now ea H args.time f, c.word-start.ensures, c.if-time-start.true)),
-    )
+    let block-leaves = c.block_leaves-n in record {
+      within = omega (arith, block-leaves.ensures.0);
+      leaf = λ a ea H f. absurd (omega (arith, start_before a args.b.now ea H args.time f, c.word-start.ensures, c.if-time-start.true));
+    }
 
 pub overflow_mul-result : goal.overflow_mul-result
 overflow_mul-result c =
@@ -39,8 +39,8 @@ returns c =
     let word = c.word in
     let if1 = c.if-word-time in
     let word2 = c.word-start in
-    let word3 = c.word-width in (
-      ring_most _ block-leaves.result _ block-leaves.ensures.1 block-leaves.ensures.0,
-      λ a ea H f. leaf_read a args.b.now ea H args.time f word.result block-leaves.result word.ensures block-leaves.ensures.0
-          c.word-2.result word2.result word3.result _ c.word-2.ensures word2.ensures word3.ensures refl if1.false,
-    )
+    let word3 = c.word-width in record {
+      within = ring_most _ block-leaves.result _ block-leaves.ensures.1 block-leaves.ensures.0;
+      leaf = λ a ea H f. leaf_read a args.b.now ea H args.time f word.result block-leaves.result word.ensures block-leaves.ensures.0
+          c.word-2.result word2.result word3.result _ c.word-2.ensures word2.ensures word3.ensures refl if1.false;
+    }

@@ -10,7 +10,7 @@ returns-then-f-ne0 c =
     let word = c.word in
     let first = c.first-f in
     c.named.ensures
-    (λ S. first_leaves args.b.now S word.result first.result.at first.result.words word.ensures (first.ensures.1.1 _ S.table) c.if-f-ne0.true)
+    (λ S. first_leaves args.b.now S word.result first.result.at first.result.words word.ensures (first.ensures.first _ S.table) c.if-f-ne0.true)
 
 pub returns : goal.returns
 returns c =
@@ -19,5 +19,5 @@ returns c =
     let first = c.first-f in
     let nearest = c.nearest in
     c.named-2.ensures
-    (λ S. first_over args.b.now S (word.result % 16 % 16) first.result.at first.result.words nearest.result (first.ensures.1.1 _ S.table)
-    c.if-f-ne0.false (nearest.ensures.1 S))
+    (λ S. first_over args.b.now S (word.result % 16 % 16) first.result.at first.result.words nearest.result (first.ensures.first _ S.table)
+    c.if-f-ne0.false (nearest.ensures.nearest S))

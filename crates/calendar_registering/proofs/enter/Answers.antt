@@ -18,5 +18,5 @@ returns c =
     let leaf = c.leaf-l in
     let put = c.put in
     λ S l f.
-    entered_placed args.b.now put.new.0 S put.ensures.0 args.s args.time leaf.result l f (leaf.ensures.1 _ refl S.header f)
-    (put.ensures.1.1 _ S.table pre.0 (omega arith) (omega arith))
+    entered_placed args.b.now put.new.b S put.ensures.kept args.s args.time leaf.result l f (leaf.ensures.leaf _ refl S.header f)
+    (put.ensures.placed _ S.table pre.0 (omega arith) (omega arith))

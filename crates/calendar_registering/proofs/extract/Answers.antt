@@ -18,8 +18,8 @@ returns-in-At c =
     let lowest = c.lowest-at in
     let at = c.at-1 in
     let take = c.take in
-    extract_at args.b.now take.new.0 at.given.0.0 at.given.0.1.0 at.given.0.1.1.0
-    (subst (Names args.b.now) at.given.1 lowest.ensures) take.ensures.0 take.ensures.1.1
+    extract_at args.b.now take.new.b at.given.0.0 at.given.0.1.0 at.given.0.1.1.0
+    (subst (Names args.b.now) at.given.1 lowest.ensures) take.ensures.kept take.ensures.gone
 
 pub returns-in-Refused : goal.returns-in-Refused
 returns-in-Refused c =

@@ -35,4 +35,4 @@ returns c =
     let enter = c.enter in
     register_done args.b.now args.station args.time (one_of args.b.now stations.result args.station stations.ensures.0
     if1.false) if2.false
-    enter.new.0 (rw (← word.ensures) c.if-time-word.false) enter.ensures
+    enter.new.b (rw (← word.ensures) c.if-time-word.false) enter.ensures

@@ -16,6 +16,6 @@ returns c =
     let args = c.args in
     let stations = c.stations in
     let take = c.take in
-    unregister_done args.b.now args.station take.new.0 (one_of args.b.now stations.result args.station stations.ensures.0
+    unregister_done args.b.now args.station take.new.b (one_of args.b.now stations.result args.station stations.ensures.0
     c.if-stations-station.false)
-    (omega arith) take.ensures.0 take.ensures.1.1
+    (omega arith) take.ensures.kept take.ensures.gone
