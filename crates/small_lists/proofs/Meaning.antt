@@ -22,6 +22,7 @@ stands (x ∷ xs) (suc k) h = stands xs k (omega (arith, h))
 
 -- where a member stands
 place_of : {A : Type 0} {x : A} (xs : List A) → Memᴰ x xs → (k : ℕ) × (k < length xs) × (get_elem? xs k ≡ some x)
+place_of {A = A} [] x'' = elim x'' [ ]
 place_of (y ∷ xs) (Memᴰ.head e) = (0, omega arith, ap some (sym e))
 place_of (y ∷ xs) (Memᴰ.tail i) = let p = place_of xs i in (suc p.0, omega (arith, p.1), p.2)
 

@@ -15,6 +15,7 @@ use Rattle.small_lists.specs.Complete.{FirstDiffers, here, there, Precedes, shor
 
 front_in : (k : ℕ) {l : List ℕ} (ls : List (List ℕ)) → Memᴰ l ls → Memᴰ (k ∷ l) (in_front k ls)
 unfolding in_front
+front_in k {l = l} [] x' = elim x' [ ]
 front_in k (m ∷ ls) (Memᴰ.head e) = Memᴰ.head (ap (λ t. k ∷ t) e)
 front_in k (m ∷ ls) (Memᴰ.tail i) = Memᴰ.tail (front_in k ls i)
 
@@ -26,6 +27,7 @@ record Front (k : ℕ) (l : List ℕ) (ls : List (List ℕ)) : Type 0 where
 
 in_front_lem : (k : ℕ) (l : List ℕ) (ls : List (List ℕ)) → Memᴰ l (in_front k ls) → Front k l ls
 unfolding in_front
+in_front_lem k l [] x' = elim x' [ ]
 in_front_lem k l (m ∷ ls) (Memᴰ.head e) = record { rest = m; is = e; among = Memᴰ.head refl }
 in_front_lem k l (m ∷ ls) (Memᴰ.tail i) = let f = in_front_lem k l ls i in record { rest = f.rest; is = f.is; among = Memᴰ.tail f.among }
 
@@ -48,6 +50,7 @@ record EachFront (k n : ℕ) (l : List ℕ) (ls : List (List ℕ)) : Type 0 wher
 
 in_each : (n k : ℕ) (l : List ℕ) (ls : List (List ℕ)) → Memᴰ l (each_in_front k n ls) → EachFront k n l ls
 unfolding each_in_front
+in_each zero k l ls i = elim i [ ]
 in_each (suc n) k l ls i = go (in_each n (suc k) l ls) (Memᴰ.append_cases (in_front k ls) i)
   where
     go : (Memᴰ l (each_in_front (suc k) n ls) → EachFront (suc k) n l ls) → Memᴰ l (in_front k ls) ⊎ Memᴰ l (each_in_front (suc k) n ls) → EachFront k (suc n) l ls
@@ -64,6 +67,7 @@ has_all (k ∷ l) a = each_in 7 0 k (of_length (length l)) (omega arith) a.0 (ha
 pub has_only : (n : ℕ) (l : List ℕ) → Memᴰ l (of_length n) → (length l ≡ n) × All (λ k. k < 7) l
 unfolding of_length
 has_only zero l (Memᴰ.head e) = rw e (refl, tt)
+has_only zero l (Memᴰ.tail x5) = elim x5 [ ]
 has_only (suc n) l i =
     let f = in_each 7 0 l (of_length n) i in
     let r = has_only n f.front.rest f.front.among in
@@ -113,9 +117,12 @@ ascending_length zero = (λ m i. elim i [ ], tt)
 ascending_length (suc n) = ascending_each 7 0 n (of_length n) (λ l i. (has_only n l i).0) (ascending_length n)
 
 -- no list comes before itself
+differ_from : {l m : List ℕ} → FirstDiffers l m → l ≡ m → ⊥
+differ_from (here {j = j} {k = k} h) e = let f : j ≡ k = cc in omega (arith, h)
+differ_from (there {l = l} {m = m} d) e = let f : l ≡ m = cc in differ_from d f
+
 differs_not : (l : List ℕ) → FirstDiffers l l → ⊥
-differs_not (k ∷ l) (here h) = omega (arith, h)
-differs_not (k ∷ l) (there d) = differs_not l d
+differs_not l d = differ_from d refl
 
 pub precedes_not : (l : List ℕ) → Precedes l l → ⊥
 precedes_not l (shorter h) = omega (arith, h)

@@ -13,11 +13,15 @@ use Rattle.small_lists.proofs.Complete.{complete}
 
 -- ---- of two lists one comes first
 
+-- at lists of their own, and equations between them
+differ_at : {l m n o : List ℕ} → FirstDiffers l m → FirstDiffers n o → m ≡ n → l ≡ o → ⊥
+differ_at (here {j = j} {k = k} a) (here {j = i} {k = h} b) p q = let e : k ≡ i = cc in let f : j ≡ h = cc in omega (arith, a, b)
+differ_at (here {j = j} {k = k} a) (there {k = i} b) p q = let e : k ≡ i = cc in let f : j ≡ i = cc in omega (arith, a)
+differ_at (there {k = i} a) (here {j = j} {k = k} b) p q = let e : i ≡ j = cc in let f : i ≡ k = cc in omega (arith, b)
+differ_at (there {l = l} {m = m} a) (there {l = n} {m = o} b) p q = let e : m ≡ n = cc in let f : l ≡ o = cc in differ_at a b e f
+
 differ_once : {l m : List ℕ} → FirstDiffers l m → FirstDiffers m l → ⊥
-differ_once (here a) (here b) = omega (arith, a, b)
-differ_once (here a) (there b) = omega (arith, a)
-differ_once (there a) (here b) = omega (arith, b)
-differ_once (there a) (there b) = differ_once a b
+differ_once a b = differ_at a b refl refl
 
 not_both : {l m : List ℕ} → Precedes l m → Precedes m l → ⊥
 not_both (shorter a) (shorter b) = omega (arith, a, b)
@@ -28,6 +32,7 @@ not_both (differs e a) (differs f b) = differ_once a b
 -- ---- in order by place is in order one after the other
 
 place_in : (ls : List (List ℕ)) (m : List ℕ) → Memᴰ m ls → (j : ℕ) × (j < length ls) × (get_or ls j [] ≡ m)
+place_in [] m x' = elim x' [ ]
 place_in (l ∷ ls) m (Memᴰ.head e) = (0, omega arith, sym e)
 place_in (l ∷ ls) m (Memᴰ.tail i) = let p = place_in ls m i in (suc p.0, omega (arith, p.1), p.2)
 

@@ -7,9 +7,8 @@ use mathlib.Core.Bool.{Bool, true, false, ◌&&◌, true≢false}
 use mathlib.Core.List.{List}
 use lib.Dec.{ltb}
 use borrow.Author.Tests.{ltb-true, ltb-false}
-use denote.Enum.Declared.{tag_of}
+use Rattle.refusal.specs.declared.Refusal.{Refusal}
 use Rattle.line.specs.declared.Config.{Config}
-use Rattle.plan_format.specs.contracts.ReadAnswer as R
 use Rattle.plan_format.specs.declared.ReadAnswer.{ReadAnswer}
 use Rattle.plan_format.specs.declared.ReadAnswer.TheVariants.{Stations, Refused}
 use Rattle.plan_format.specs.Line.{line_of}
@@ -56,13 +55,9 @@ star_is plan s e h = sym (h ∙ ap star_at (config_is plan s e))
 
 -- ---- the plan
 
-refused : (a : ReadAnswer) (star : Bool) → tag_of R.the_type a ≡ 1 → star_in a star ≡ false
-refused (Stations n) star t = absurd (omega arith)
-refused (Refused e) star t = refl
-
-pub judged_no : (plan : List ℕ) {a : ReadAnswer} → a ≡ judging plan → tag_of R.the_type a ≡ 1 → is_star_plan plan ≡ false
+pub judged_no : (plan : List ℕ) {a : ReadAnswer} {r : Refusal} → a ≡ judging plan → a ≡ Refused r → is_star_plan plan ≡ false
 unfolding is_star_plan
-judged_no plan {a} e t = rw (sym e) (refused a _ t)
+judged_no plan e t = rw (sym e ∙ t)
 
 pub judged_yes : (plan : List ℕ) (n : ℕ) → judging plan ≡ Stations n → is_star_plan plan ≡ star_below n (line_of plan).config
 unfolding is_star_plan is_star line_of

@@ -13,4 +13,4 @@ pub returns-in-Stations : goal.returns-in-Stations
 returns-in-Stations c = c.stars.ensures ∙ sym (judged_yes _ _ (sym c.judge.ensures.answer ∙ c.in-Stations.is))
 
 pub returns-in-Refused : goal.returns-in-Refused
-returns-in-Refused c = sym (judged_no _ c.judge.ensures.answer c.in-Refused.keys2)
+returns-in-Refused c = sym (judged_no _ c.judge.ensures.answer c.in-Refused.is)
