@@ -1,5 +1,4 @@
 -- The fields that were loaded are those of the definition.
-use borrow.Author.Rules.{rules}
 use Rattle.engine_records.specs.Records.{stored_config}
 use Rattle.engine_records.proofs.read_config.Goals as goal
 

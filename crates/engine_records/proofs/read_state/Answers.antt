@@ -1,7 +1,6 @@
 -- The fields that were loaded are those of the definition.
 use mathlib.Core.Bool.{not}
 use lib.Dec.{eqb}
-use borrow.Author.Rules.{rules}
 use Rattle.engine_records.specs.Records.{state_at}
 use Rattle.engine_records.proofs.read_state.Goals as goal
 

@@ -1,7 +1,6 @@
 -- The stores are those of the definition, in its order.
 use Rattle.words.specs.Le.{store_at}
 use mathlib.Core.Path.{◌∙◌, ap}
-use borrow.Author.Rules.{rules}
 use Rattle.engine_records.specs.Records.{put_config}
 use Rattle.engine_records.proofs.write_config.Goals as goal
 

@@ -4,7 +4,6 @@ use mathlib.Core.Bool.{Bool}
 use mathlib.Core.List.{List}
 use Prim.Native.Nat.{ℕ}
 use mir.Val.{bool_byte}
-use borrow.Author.Rules.{rules}
 use Rattle.words.specs.Le.{store_at}
 use Rattle.line.specs.Flag.{flag_of}
 use Rattle.line.proofs.Flag.{cast_flag}

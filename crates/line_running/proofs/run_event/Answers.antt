@@ -1,6 +1,5 @@
 -- The event's matter picks the definition's case.
 use Rattle.line.specs.Station.{run_at, run_matter, run_level}
-use borrow.Author.Rules.{rules}
 use Rattle.line_running.proofs.run_event.Goals as goal
 
 pub returns-in-Read : goal.returns-in-Read

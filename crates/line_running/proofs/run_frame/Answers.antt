@@ -2,7 +2,6 @@
 use native.Mathlib.Omega.{arith}
 use borrow.Author.Tests.{le-leb, lt-leb}
 use Rattle.line.specs.Station.{run_frame}
-use borrow.Author.Rules.{rules}
 use Rattle.line_running.proofs.run_frame.Goals as goal
 
 pub returns-then-draw-c : goal.returns-then-draw-c

@@ -4,7 +4,6 @@ use native.Mathlib.Numerals.{add-one}
 use borrow.Author.Tests.{ne_eqb, eq-eqb}
 use Rattle.line.specs.Station.{silent, drawn_state, hear, pass}
 use Rattle.line_running.proofs.Answers.{passed, pass_stays}
-use borrow.Author.Rules.{rules}
 use Rattle.line_running.proofs.run_heard.Goals as goal
 
 pub returns-then-s-eq4294967295 : goal.returns-then-s-eq4294967295

@@ -4,7 +4,6 @@ use native.Mathlib.Numerals.{add-one}
 use borrow.Author.Tests.{lt-ltb, le-ltb}
 use Rattle.line.specs.Station.{silent, drawn_state, lose, repeat}
 use Rattle.line_running.proofs.Answers.{passed, repeat_stays}
-use borrow.Author.Rules.{rules}
 use Rattle.line_running.proofs.run_lost.Goals as goal
 
 pub returns-then-s-eq4294967295 : goal.returns-then-s-eq4294967295

@@ -4,7 +4,6 @@ use borrow.Author.Tests.{ne_eqb, eq-eqb}
 use Rattle.line.specs.Station.{run_read}
 use Rattle.line.specs.Answer.{said}
 use Rattle.line_running.proofs.Answers.{ahead, single, stays, chain}
-use borrow.Author.Rules.{rules}
 use Rattle.line_running.proofs.run_read.Goals as goal
 
 pub returns-then-station-eq0 : goal.returns-then-station-eq0

@@ -4,7 +4,6 @@ use native.Mathlib.Omega.{arith}
 use native.Mathlib.Numerals.{add-one}
 use Rattle.line.specs.Station.{silent}
 use Rattle.line_running.proofs.Answers.{kept, passed, late, timely}
-use borrow.Author.Rules.{rules}
 use Rattle.line_running.proofs.send.Goals as goal
 
 pub returns-then-time-gt-HORIZON : goal.returns-then-time-gt-HORIZON

@@ -1,12 +1,12 @@
 -- The calls as functions: an answer and the engine after it, computed. `Answered` says that they are the rules'.
-use Prim.Native.Nat.{ℕ, suc}
+use Prim.Native.Nat.{ℕ}
 use mathlib.Core.List.{List, [], ◌∷◌}
 use Rattle.refusal.specs.Tests.{Verdict, accepted, refused, judged}
 use Rattle.line.specs.declared.Meant.{Meant}
 use Rattle.line.specs.declared.Meant.TheVariants.{Means, Refused as Unsuited}
 use Rattle.line.specs.Matter.{matter_of}
 use Rattle.line.specs.Station.{Plan}
-use Rattle.rules.specs.Held.{Held, unrun, ran, Queue, Found, none, some, least_unrun, undone, held_post, logged, kept, record_of}
+use Rattle.rules.specs.Held.{Held, unrun, ran, Queue, Found, none, some, least_unrun, undone, held_post, logged, record_of}
 use Rattle.rules.specs.Engine.{Engine, Call, Post, Retract, RunStation, RunLowest, Commit, Record, Answer, Refused, Posted, Retracted, Ran, RanLowest, Committed, Recorded}
 use Rattle.rules.specs.Checks.{checks}
 use Rattle.rules.specs.Calls.{post_of, with, lowest_words, committed, after_post, at_commit}

@@ -1,14 +1,14 @@
 -- Every call, refused or not, keeps the invariant, with the posts, the retracted numbers, the commit time and the log that it adds.
 use mathlib.Core.Path.{◌≡◌, refl, sym, ap, ◌∙◌, subst}
 use mathlib.Core.Logic.{◌⊎◌, inl, inr}
-use mathlib.Core.Bool.{Bool, true, false, cond}
+use mathlib.Core.Bool.{false, cond}
 use mathlib.Core.List.{List, [], ◌∷◌, ◌++◌, append-nil, Memᴰ}
 use Prim.Native.Nat.{ℕ, suc, ◌+◌, ◌*◌, ◌≤◌, ◌<◌}
 use native.Mathlib.Nat.{le_refl}
 use native.Mathlib.Omega.{arith}
 use lib.Dec.{ltb, leb, nleb→lt, nltb→le}
 use lib.ListN.{length, drop}
-use Rattle.refusal.specs.Tests.{horizon, Verdict, accepted, or_next, judged}
+use Rattle.refusal.specs.Tests.{horizon, accepted, judged}
 use Rattle.refusal.proofs.CheckingOrder.{not_holding}
 use Rattle.line.specs.declared.Event.{Event}
 use Rattle.line.specs.declared.Matter.{Matter}

@@ -1,9 +1,7 @@
 -- Sorted insertion: insertions of different events commute, and the head of a list is the least of it.
 use mathlib.Core.Path.{◌≡◌, refl, sym, ap, ◌∙◌, subst}
-use mathlib.Core.Bool.{cond}
 use mathlib.Core.List.{List, [], ◌∷◌}
 use Rattle.line.specs.declared.Event.{Event}
-use Rattle.line.specs.Event.{before}
 use Rattle.line.specs.Order.{Lt, Ge, Differ, fst, snd, All}
 use Rattle.line.proofs.Order.{Cmp, less, not_less, cmp, asym, tr, irr, clash}
 use Rattle.rules.specs.Replay.{insert_sorted, insert_all_sorted}

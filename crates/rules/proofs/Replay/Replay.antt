@@ -9,14 +9,14 @@ use Prim.Native.Nat.{ℕ, ◌≤◌, ◌<◌}
 use native.Mathlib.Nat.{le_refl, le_trans}
 use native.Mathlib.Omega.{arith}
 use Rattle.line.specs.declared.Event.{Event}
-use Rattle.rules.specs.Replay.{insert_all_sorted, EachRun, NoRun, Replay, Clear, Fresh}
+use Rattle.rules.specs.Replay.{insert_all_sorted, NoRun, Replay, Fresh}
 use Rattle.rules.proofs.Machine.Insert.{Disjoint}
 use Rattle.line.proofs.Order.{Which, this, other, which, differ_number, differ_source, earlier}
 use Rattle.rules.proofs.Update.{update_at, update_other}
 use Rattle.line.specs.Station.{Plan, InRange, States, update, run_event}
 use Rattle.line.specs.declared.State.{State}
-use Rattle.rules.specs.Held.{Held, unrun, ran, event}
-use Rattle.line.specs.Order.{Lt, Ge, Differ, All}
+use Rattle.rules.specs.Held.{Held, unrun, ran}
+use Rattle.line.specs.Order.{Lt, Differ, All}
 use Rattle.line.proofs.All.{all_map}
 use Rattle.line.proofs.Sends.{Sent, Good, event_good, grows as sent-rises}
 
