@@ -276,32 +276,32 @@ def list_of(texts):
 HEAD = """-- Lists of calls with the answers that an independent program gave (tools/worked.py, which writes this file).
 use mathlib.Core.Path.{refl}
 use mathlib.Core.Bool.{true, false}
-use mathlib.Core.List.{List, [], _∷_, _++_}
-use Rattle·words.specs.Le.{bytesOf}
-use Rattle·refusal.specs.Tests.{orNext, judged}
-use Rattle·generator.specs.Draw.{nextDraw}
-use Rattle·line.specs.declared.Config.{Config}
-use Rattle·line.specs.declared.Matter.the-variants.{Read, Frame, Level}
-use Rattle·line.specs.Event.{decide, lex, before}
-use Rattle·line.specs.Matter.{frameOf, matterOf}
-use Rattle·line.specs.Station.{parentOut, numberOut, update, initial, send, silent, period, runRead, drawnState, lose, hear, repeat, pass, runFrame, runLevel, runMatter, runAt, runEvent}
-use Rattle·calendar_ring.specs.WordsRead.{noneIn, wordsFrom, wordsRead}
-use Rattle·rules.specs.Held.{same, delete, place, leastUnrun, mark, timeOf, registered, asTime, registeredFrom, isRun, undone, heldPost, noneUnrun, unrunBefore, logged, kept, recordOf}
-use Rattle·rules.specs.Engine.{chosen, opened, Call, Post, Retract, RunStation, RunLowest, Commit, Record, Answer, Refused, Posted, Retracted, Ran, RanLowest, Committed, Recorded}
-use Rattle·rules.specs.Checks.{checks}
-use Rattle·entry.specs.Entry.{entry, entries}
-use Rattle·rules.specs.Calls.{postOf, with, lowestWords}
-use Rattle·rules.specs.Executable.{runs, beyond, orThis, latest, removeEach, undoFound, undoWithin, undoFrom, removing, adding, addAll, runLeast}
-use Rattle·rules.proofs.Calls.Compute.{settle, postStep, retractStep, runStep, stationStep, lowestOf, counting, countingStep, commitStep, answerTo, answersTo}
-use Rattle·rules_worked·proofs.proofs.Check.{nth, allIn, in-range, at, zeros, pairs, Gives, computed}
+use mathlib.Core.List.{List, [], ◌∷◌, ◌++◌}
+use Rattle.words.specs.Le.{bytes_of}
+use Rattle.refusal.specs.Tests.{or_next, judged}
+use Rattle.generator.specs.Draw.{next_draw}
+use Rattle.line.specs.declared.Config.{Config}
+use Rattle.line.specs.declared.Matter.TheVariants.{Read, Frame, Level}
+use Rattle.line.specs.Event.{decide, lex, before}
+use Rattle.line.specs.Matter.{frame_of, matter_of}
+use Rattle.line.specs.Station.{parent_out, number_out, update, initial, send, silent, period, run_read, drawn_state, lose, hear, repeat, pass, run_frame, run_level, run_matter, run_at, run_event}
+use Rattle.calendar_ring.specs.WordsRead.{none_in, words_from, words_read}
+use Rattle.rules.specs.Held.{same, delete, place, least_unrun, mark, time_of, registered, as_time, registered_from, is_run, undone, held_post, none_unrun, unrun_before, logged, kept, record_of}
+use Rattle.rules.specs.Engine.{chosen, opened, Call, Post, Retract, RunStation, RunLowest, Commit, Record, Answer, Refused, Posted, Retracted, Ran, RanLowest, Committed, Recorded}
+use Rattle.rules.specs.Checks.{checks}
+use Rattle.entry.specs.Entry.{entry, entries}
+use Rattle.rules.specs.Calls.{post_of, with, lowest_words}
+use Rattle.rules.specs.Executable.{runs, beyond, or_this, latest, remove_each, undo_found, undo_within, undo_from, removing, adding, add_all, run_least}
+use Rattle.rules.proofs.Calls.Compute.{settle, post_step, retract_step, run_step, station_step, lowest_of, counting, counting_step, commit_step, answer_to, answers_to}
+use Rattle.rules_worked.proofs.Check.{nth, all_in, in_range, at, zeros, pairs, Gives, computed}
 """
 
-UNFOLDING = """    settle postStep retractStep runStep stationStep lowestOf counting countingStep lowestWords commitStep answerTo answersTo
-    runs beyond orThis latest removeEach undoFound undoWithin undoFrom removing adding addAll runLeast
-    postOf with entry entries bytesOf checks orNext judged opened frameOf matterOf
-    noneIn wordsFrom wordsRead timeOf registered asTime registeredFrom
-    same delete place leastUnrun mark isRun undone heldPost noneUnrun unrunBefore logged kept recordOf
-    decide lex before update initial send silent period runRead drawnState lose hear repeat pass runFrame runLevel runMatter runAt runEvent nextDraw"""
+UNFOLDING = """    settle post_step retract_step run_step station_step lowest_of counting counting_step lowest_words commit_step answer_to answers_to
+    runs beyond or_this latest remove_each undo_found undo_within undo_from removing adding add_all run_least
+    post_of with entry entries bytes_of checks or_next judged opened frame_of matter_of
+    none_in words_from words_read time_of registered as_time registered_from
+    same delete place least_unrun mark is_run undone held_post none_unrun unrun_before logged kept record_of
+    decide lex before update initial send silent period run_read drawn_state lose hear repeat pass run_frame run_level run_matter run_at run_event next_draw"""
 
 # seed, length, arity, leaf width, unit: the first meets eight of the numbers, the second takes back seventeen events at once; both give a frame up. The units are such
 # that nine different counts of words read occur in the first and twelve in the second.
@@ -315,22 +315,22 @@ def main():
     for k, (seed, length, arity, width, unit) in enumerate(LISTS, 1):
         plan, capacity, made = scenario(seed, length, arity, width, unit)
         out.append(f"""
-plan-{k} : List Config
-plan-{k} =
+plan_{k} : List Config
+plan_{k} =
     {list_of(map(config_text, plan))}
 
-calls-{k} : List Call
-calls-{k} =
+calls_{k} : List Call
+calls_{k} =
     {list_of(call_text(c) for c, _ in made)}
 
-answers-{k} : List Answer
-answers-{k} =
+answers_{k} : List Answer
+answers_{k} =
     {list_of(answer_text(a) for _, a in made)}
 
-list-{k} : Gives plan-{k} (chosen {arity} {width} {capacity}) calls-{k} answers-{k}
-unfolding plan-{k} calls-{k} answers-{k} allIn parentOut numberOut nth pairs zeros
+list_{k} : Gives plan_{k} (chosen {arity} {width} {capacity}) calls_{k} answers_{k}
+unfolding plan_{k} calls_{k} answers_{k} all_in parent_out number_out nth pairs zeros
 {UNFOLDING}
-list-{k} = computed plan-{k} (chosen {arity} {width} {capacity}) calls-{k} answers-{k} (in-range plan-{k} tt tt tt) refl
+list_{k} = computed plan_{k} (chosen {arity} {width} {capacity}) calls_{k} answers_{k} (in_range plan_{k} tt tt tt) refl
 """)
     sys.stdout.write("".join(out))
 
