@@ -18,10 +18,9 @@ pub returns-in-At : goal.returns-in-At
 returns-in-At c =
     let args = c.args in
     let shape_of = c.shape_of-at in
-    let at = c.at-1 in
     let open-shape = c.open_shape in
-    let E = subst (EntryIs args.arity) at.given.1 shape_of.ensures in
-    subst (λ (m : ℕ). OpensCalendar args.n m args.width args.b.now open-shape.result open-shape.new.1.1.1.1.0) E.2
+    let E = subst (EntryIs args.arity) c.in-At.is shape_of.ensures in
+    subst (λ (m : ℕ). OpensCalendar args.n m args.width args.b.now open-shape.result open-shape.new.b) E.2
     open-shape.ensures
 
 pub returns-in-Missing : goal.returns-in-Missing

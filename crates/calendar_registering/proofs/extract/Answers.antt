@@ -9,17 +9,17 @@ use Rattle.calendar_registering.proofs.extract.Goals as goal
 pub overflow_cast-station : goal.overflow_cast-station
 overflow_cast-station c =
     let lowest = c.lowest-at in
-    let at = c.at-1 in
-    omega (arith, lowest.ensures.station at.given.0.0 at.given.0.1.0 at.given.0.1.1.0 at.given.1)
+    let at = c.in-At in
+    omega (arith, lowest.ensures.station at.station at.time at.words at.is)
 
 pub returns-in-At : goal.returns-in-At
 returns-in-At c =
     let args = c.args in
     let lowest = c.lowest-at in
-    let at = c.at-1 in
+    let at = c.in-At in
     let take = c.take in
-    extract_at args.b.now take.new.b at.given.0.0 at.given.0.1.0 at.given.0.1.1.0
-    (subst (Names args.b.now) at.given.1 lowest.ensures) take.ensures.kept take.ensures.gone
+    extract_at args.b.now take.new.b at.station at.time at.words
+    (subst (Names args.b.now) at.is lowest.ensures) take.ensures.kept take.ensures.gone
 
 pub returns-in-Refused : goal.returns-in-Refused
 returns-in-Refused c =
