@@ -8,7 +8,6 @@ use Prim.Native.Nat.{ℕ, ◌-◌, ◌≤◌, ◌<◌}
 use native.Mathlib.Omega.{arith}
 use lib.ListN.{length, take, drop, get_or-eq_default}
 use Rattle.words.proofs.Cases.{lt_or}
-use Rattle.refusal.specs.declared.Refusal.{Refusal}
 use Rattle.refusal.specs.declared.Refusal.TheVariants.{Idle}
 use Rattle.refusal.specs.Tests.{accepted, refused, or_next, judged, says}
 use Rattle.refusal.specs.Numbers.{number_of}

@@ -10,7 +10,6 @@ use Rattle.words.specs.Le.{load_at}
 use Rattle.refusal.specs.Tests.{horizon, refused}
 use Rattle.refusal.specs.declared.Refusal.{Refusal}
 use Rattle.refusal.specs.Numbers.{number_of}
-use Rattle.line.specs.declared.Event.{Event}
 use Rattle.line.specs.declared.Matter.{Matter}
 use Rattle.line.specs.declared.Meant.TheVariants.{Means, Refused as Unsuited}
 use Rattle.line.specs.Event.{posted}

@@ -29,7 +29,7 @@ use Rattle.engine_moves.proofs.Cells.Split.{held_in}
 use Rattle.engine_rollback.specs.BetweenSteps.{Mid, RollsTo}
 use Rattle.engine_rollback.specs.Promises.{Removes}
 use Rattle.engine_promises.specs.Represents.{Represents}
-use Rattle.engine_promises.specs.Steps.{at_most, JudgesCall, Numbered}
+use Rattle.engine_promises.specs.Steps.{at_most, JudgesCall}
 use Rattle.engine_posting.specs.declared.RetractJudged.{RetractJudged}
 use Rattle.engine_posting.specs.declared.RetractJudged.TheVariants as J
 use Rattle.engine_posting.specs.Steps.{FindsPost, retract_verdict, JudgesRetract}

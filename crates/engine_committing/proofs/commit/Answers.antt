@@ -1,7 +1,6 @@
 -- A commit that is judged as refused is refused (`commit-refusal`); else the front is written, and the header's and the calendar's time are raised
 -- (`commit-accepted`).
 use native.Mathlib.Omega.{arith}
-use borrow.Author.Rules.{rules}
 use Rattle.engine_committing.proofs.Committing.{commit_refusal, commit_accepted}
 use Rattle.engine_committing.proofs.commit.Goals as goal
 

@@ -1,12 +1,11 @@
 -- The front cells of the log are passed one by one; the measure is what is left of the capacity.
 use mathlib.Core.Path.{◌≡◌}
-use Prim.Native.Nat.{◌-◌, ◌≤◌}
+use Prim.Native.Nat.{◌-◌}
 use native.Mathlib.Omega.{arith}
 use Rattle.engine_index.proofs.Places.Range.{logged_at}
 use Rattle.engine_index.proofs.Places.FoundSlot.{finds}
-use borrow.Author.Rules.{rules}
 use Rattle.engine_promises.proofs.FoundSlots.{no_slot}
-use Rattle.engine_committing.proofs.Counting.{Counting, time_at, counting_start, counting_on, counting_ends, read_time}
+use Rattle.engine_committing.proofs.Counting.{time_at, counting_start, counting_on, counting_ends, read_time}
 use Rattle.engine_committing.proofs.count_before.Goals as goal
 
 pub loop-count-init : goal.loop-count-init

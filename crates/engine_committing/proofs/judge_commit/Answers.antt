@@ -1,7 +1,6 @@
 -- The checks in their order, each with its law.
 use Prim.Native.Nat.{◌+◌, ◌≤◌}
 use native.Mathlib.Omega.{arith}
-use borrow.Author.Rules.{rules}
 use borrow.Author.Tests.{not-true}
 use Rattle.refusal.specs.Tests.{horizon}
 use Rattle.words.specs.Le.{load_at}

@@ -1,5 +1,4 @@
 -- The first of the station's run ring has the state (`first_run`); where there is none, the station itself (`none-run`).
-use borrow.Author.Rules.{rules}
 use borrow.Author.Tests.{not-true}
 use Rattle.engine_committing.proofs.Recording.{other_station, none_run, first_run_lem}
 use Rattle.engine_promises.proofs.ShortBuffer.{unfit_call}

@@ -1,5 +1,4 @@
 -- The lowest station's time decides.
-use borrow.Author.Rules.{rules}
 use Rattle.engine_committing.proofs.UnrunBefore.{none_earlier, some_earlier}
 use Rattle.engine_committing.proofs.unrun_before.Goals as goal
 

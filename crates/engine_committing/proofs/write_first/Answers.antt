@@ -1,17 +1,15 @@
 -- The first event of the log is written and leaves, so many times; the measure is how many are left. The loop ends where the log has no more events
 -- (`writing-stops`), or after that many (`writing-ends`).
-use mathlib.Core.Path.{◌≡◌, refl, ap, ◌∙◌}
-use Prim.Native.Nat.{◌-◌, ◌≤◌}
+use mathlib.Core.Path.{refl, ap, ◌∙◌}
+use Prim.Native.Nat.{◌-◌}
 use native.Mathlib.Omega.{arith}
 use Rattle.engine_index.proofs.Places.Range.{logged_at}
 use Rattle.engine_index.proofs.Places.FoundSlot.{finds}
-use borrow.Author.Rules.{rules}
 use lib.ListN.{length}
 use Rattle.entry.proofs.EntryLaws.{length_event}
-use Rattle.engine_events.specs.Promises.{AfterHeader}
 use Rattle.engine_events.proofs.AfterHeader.{after_header_same, after_header_on}
 use Rattle.engine_promises.proofs.FoundSlots.{no_slot, slot_event}
-use Rattle.engine_committing.proofs.Writing.{Writing, writing_start, writing_on, writing_stops, writing_ends}
+use Rattle.engine_committing.proofs.Writing.{writing_start, writing_on, writing_stops, writing_ends}
 use Rattle.engine_committing.proofs.write_first.Goals as goal
 
 pub loop-k-init : goal.loop-k-init

@@ -1,6 +1,5 @@
 -- By the tests: n is in range, and the node is no sentinel.
 use Rattle.engine_ends.proofs.Read.{free_some, free_none, free_many}
-use borrow.Author.Rules.{rules}
 use Rattle.engine_ends.proofs.first_free.Goals as goal
 
 pub returns-then-x-f : goal.returns-then-x-f

@@ -1,6 +1,5 @@
 -- By the tests: the station is one of n, n is in range, and the node is no sentinel.
 use Rattle.engine_ends.proofs.Read.{first_run_some, first_run_none, first_run_many, first_run_far}
-use borrow.Author.Rules.{rules}
 use Rattle.engine_ends.proofs.first_run.Goals as goal
 
 pub returns-then-x-u : goal.returns-then-x-u

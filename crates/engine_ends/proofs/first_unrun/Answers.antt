@@ -1,6 +1,5 @@
 -- By the tests: the station is one of n, and the node is no sentinel.
 use Rattle.engine_ends.proofs.Read.{unrun_some, unrun_none, unrun_far}
-use borrow.Author.Rules.{rules}
 use Rattle.engine_ends.proofs.first_unrun.Goals as goal
 
 pub returns-then-x-s : goal.returns-then-x-s

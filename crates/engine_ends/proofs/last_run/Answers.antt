@@ -1,6 +1,5 @@
 -- By the tests: the station is one of n, n is in range, and the node is no sentinel.
 use Rattle.engine_ends.proofs.Read.{last_run_some, last_run_none, last_run_many, last_run_far}
-use borrow.Author.Rules.{rules}
 use Rattle.engine_ends.proofs.last_run.Goals as goal
 
 pub returns-then-x-u : goal.returns-then-x-u

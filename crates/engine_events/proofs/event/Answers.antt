@@ -1,5 +1,4 @@
 -- The call's slot is the node's.
-use borrow.Author.Rules.{rules}
 use Rattle.engine_events.proofs.event.Goals as goal
 
 pub returns : goal.returns

@@ -1,7 +1,6 @@
 -- By the three tests.
 use native.Mathlib.Omega.{arith}
 use Rattle.engine_events.proofs.Fitting.{fits_over, fits_many, fits_rest}
-use borrow.Author.Rules.{rules}
 use Rattle.engine_events.proofs.fits.Goals as goal
 
 pub returns-then-n-gt256 : goal.returns-then-n-gt256

@@ -2,7 +2,6 @@
 use mathlib.Core.Path.{sym, ◌∙◌}
 use Rattle.engine_events.proofs.Fitting.{part_within}
 use Rattle.engine_events.proofs.LeastStation.{finds, nothing_fits, finds_none}
-use borrow.Author.Rules.{rules}
 use Rattle.engine_events.proofs.lowest.Goals as goal
 
 pub slice_bounds-lowest-start : goal.slice_bounds-lowest-start

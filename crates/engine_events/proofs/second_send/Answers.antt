@@ -2,7 +2,6 @@
 use mathlib.Core.Path.{refl}
 use native.Mathlib.Omega.{arith}
 use Rattle.engine_events.proofs.SendNumbers.{number_at}
-use borrow.Author.Rules.{rules}
 use Rattle.engine_events.proofs.second_send.Goals as goal
 
 pub returns : goal.returns

@@ -1,5 +1,4 @@
 -- A node goes to its event's place: after the node at which the walk ends.
-use borrow.Author.Rules.{rules}
 use Rattle.engine_index.proofs.Changes.FromCalls.{filed_made}
 use Rattle.engine_filing.proofs.file.Goals as goal
 

@@ -4,7 +4,6 @@ use native.Mathlib.Omega.{arith}
 use Prim.Native.Nat.{◌≤◌}
 use Rattle.engine_index.proofs.Places.Range.{run_ring_in, log_in, nodes_in}
 use Rattle.engine_index.proofs.Places.FoundSlot.{finds}
-use borrow.Author.Rules.{rules}
 use Rattle.engine_index.specs.Layout.{run_ring}
 use Rattle.engine_index.proofs.Changes.FromCalls.{prev_of_lem, mark_made, filed_last}
 use Rattle.engine_index.proofs.Places.Refusals.{found_range, refused_slot, refused_target, mark_none}

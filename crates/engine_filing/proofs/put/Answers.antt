@@ -1,7 +1,6 @@
 -- An event takes the first free slot (`put-done`), after the last of its ring or by a walk; where no slot is free, nothing is done (`put-none`).
 use native.Mathlib.Omega.{arith}
 use Prim.Native.Nat.{◌≤◌}
-use borrow.Author.Rules.{rules}
 use Rattle.engine_index.proofs.Changes.FromCalls.{filed_last, put_made}
 use Rattle.engine_index.proofs.Places.Range.{nodes_in}
 use Rattle.engine_index.proofs.Places.FoundSlot.{finds}

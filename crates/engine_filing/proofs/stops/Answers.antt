@@ -1,5 +1,4 @@
 -- The walk stops at the sentinel, and where the event comes before.
-use borrow.Author.Rules.{rules}
 use Rattle.engine_index.proofs.Changes.FromCalls.{stops_at, stops_by}
 use Rattle.engine_filing.proofs.stops.Goals as goal
 

@@ -1,11 +1,7 @@
 -- The walk: what is left of it, from the node reached, is the whole of it.
-use mathlib.Core.Path.{◌≡◌, refl, sym, ◌∙◌}
+use mathlib.Core.Path.{refl, sym, ◌∙◌}
 use native.Mathlib.Omega.{arith}
-use borrow.Author.Rules.{rules}
-use Rattle.rings.specs.Table.{prev_of}
-use Rattle.rings.specs.Walk.{steps}
 use Rattle.rings.proofs.WalkSteps.{at_none, at_stop, at_step}
-use Rattle.engine_index.specs.Steps.{stop_at}
 use Rattle.engine_filing.proofs.walk_back.Goals as goal
 
 pub loop-left-init : goal.loop-left-init

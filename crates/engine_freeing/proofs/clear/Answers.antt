@@ -1,7 +1,6 @@
 -- Rings are emptied, the slots go into the free ring, and the log is emptied.
 use native.Mathlib.Omega.{arith}
 use Prim.Native.Nat.{◌≤◌}
-use borrow.Author.Rules.{rules}
 use Rattle.engine_freeing.proofs.Clearing.{clear_made, clear_none}
 use Rattle.engine_index.proofs.Places.Range.{range_true, log_in, nodes_in, node_in}
 use Rattle.engine_freeing.proofs.clear.Goals as goal

@@ -1,9 +1,7 @@
 -- Each turn empties one ring more.
-use mathlib.Core.Path.{◌≡◌, ◌∙◌, refl}
-use Prim.Native.Nat.{◌-◌, ◌≤◌}
+use mathlib.Core.Path.{◌∙◌, refl}
+use Prim.Native.Nat.{◌-◌}
 use native.Mathlib.Omega.{arith}
-use borrow.Author.Rules.{rules}
-use lib.ListN.{length}
 use Rattle.engine_index.specs.Steps.{emptied}
 use Rattle.engine_freeing.proofs.Clearing.{emptied_none, emptied_on, at_end}
 use Rattle.engine_freeing.proofs.empty_rings.Goals as goal

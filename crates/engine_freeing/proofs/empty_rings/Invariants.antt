@@ -1,11 +1,8 @@
 -- Each turn empties one ring more.
-use mathlib.Core.Path.{◌≡◌, ◌∙◌, refl}
+use mathlib.Core.Path.{◌≡◌}
 use Prim.Native.Nat.{◌-◌, ◌≤◌}
-use native.Mathlib.Omega.{arith}
-use borrow.Author.Rules.{rules}
 use lib.ListN.{length}
 use Rattle.engine_index.specs.Steps.{emptied}
-use Rattle.engine_freeing.proofs.Clearing.{emptied_none, emptied_on, at_end}
 use Rattle.engine_freeing.proofs.empty_rings.Given as goal
 
 abbrev pub invariant-loop-s : goal.invariant-loop-s

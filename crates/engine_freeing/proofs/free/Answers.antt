@@ -5,7 +5,6 @@ use native.Mathlib.Omega.{arith}
 use Prim.Native.Nat.{◌≤◌}
 use Rattle.engine_index.proofs.Places.Range.{free_ring_in, nodes_in}
 use Rattle.engine_index.proofs.Places.FoundSlot.{finds}
-use borrow.Author.Rules.{rules}
 use Rattle.engine_index.proofs.Changes.FromCalls.{free_made, link_of}
 use Rattle.engine_index.proofs.Places.Refusals.{found_range, refused_slot}
 use Rattle.engine_freeing.proofs.free.Goals as goal

@@ -1,9 +1,7 @@
 -- Each turn frees one slot more (`filled_on`).
-use mathlib.Core.Path.{◌≡◌, refl, ◌∙◌}
-use Prim.Native.Nat.{◌-◌, ◌≤◌}
+use mathlib.Core.Path.{refl, ◌∙◌}
+use Prim.Native.Nat.{◌-◌}
 use native.Mathlib.Omega.{arith}
-use borrow.Author.Rules.{rules}
-use lib.ListN.{length}
 use lib.Dec.{lit<}
 use Rattle.engine_index.specs.Steps.{filled}
 use Rattle.engine_index.proofs.Places.Range.{node_in}

@@ -1,7 +1,6 @@
 -- A run event leaves (`release-made`); where the code does nothing, the node is no event's (`release-none`).
 use Rattle.engine_index.proofs.Places.Range.{log_in, nodes_in}
 use Rattle.engine_index.proofs.Places.FoundSlot.{finds}
-use borrow.Author.Rules.{rules}
 use Rattle.engine_index.proofs.Changes.FromCalls.{release_made}
 use Rattle.engine_index.proofs.Places.Refusals.{found_range, refused_slot, release_none}
 use Rattle.engine_freeing.proofs.release.Goals as goal

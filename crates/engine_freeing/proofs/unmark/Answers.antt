@@ -2,7 +2,6 @@
 use native.Mathlib.Omega.{arith}
 use Rattle.engine_index.proofs.Places.Range.{log_in, nodes_in}
 use Rattle.engine_index.proofs.Places.FoundSlot.{finds}
-use borrow.Author.Rules.{rules}
 use Rattle.engine_index.proofs.Changes.FromCalls.{unmark_made}
 use Rattle.engine_index.proofs.Places.Refusals.{found_range, refused_slot, refused_target, unmark_none}
 use Rattle.engine_freeing.proofs.unmark.Goals as goal

@@ -1,24 +1,20 @@
 -- Where the code does nothing, the bytes stand for no such cell: the node is no slot's, or its event is at no station.
 use mathlib.Core.Path.{◌≡◌, ap, ◌∙◌}
-use mathlib.Core.Bool.{Bool, false}
 use mathlib.Core.List.{List, ◌∷◌, ◌++◌}
-use Prim.Native.Nat.{ℕ, ◌*◌, ◌≤◌, ◌<◌}
+use Prim.Native.Nat.{ℕ, ◌≤◌, ◌<◌}
 use native.Mathlib.Omega.{arith}
 use lib.ListN.{length}
 use Rattle.line.specs.declared.Event.{Event}
 use Rattle.line.specs.declared.State.{State}
 use Rattle.rules.specs.Held.{Held, unrun, ran}
-use Rattle.rings.specs.Table.{next_of}
 use Rattle.rings.proofs.Frames.{frame_same}
 use Rattle.engine_rows.specs.Layout.{slot_row}
 use Rattle.entry.specs.Entry.{event_at}
-use Rattle.engine_index.specs.Layout.{links_at, slot_of, index_bytes, in_range, IsSlot}
-use Rattle.engine_index.specs.Promises.{Spares, Sets, Puts, Marks, Unmarks, Drops, Releases}
+use Rattle.engine_index.specs.Layout.{slot_of, index_bytes, IsSlot}
+use Rattle.engine_index.specs.Promises.{Spares, Sets, Marks, Unmarks, Drops, Releases}
 use Rattle.engine_index.specs.Represents.{Cell, cell, Stands}
-use Rattle.engine_index.proofs.Places.Range.{range_gone}
 use Rattle.engine_index.proofs.Places.FoundSlot.{FindsSlot}
 use Rattle.engine_index.proofs.Slots.SlotBytes.{held_event}
-use Rattle.engine_index.proofs.Changes.Put.{first_free_lem}
 use Rattle.engine_index.proofs.Changes.Mark.{node_of}
 use Rattle.engine_index.proofs.Changes.Confined.{Inside}
 use Rattle.engine_index.proofs.Slots.SlotsSpared.{spares_same}

@@ -1,6 +1,5 @@
 -- The log's links stand after those of the nodes, four bytes each.
 use Prim.Native.Nat.{◌+◌, ◌*◌}
-use borrow.Author.Rules.{rules}
 use Rattle.engine_index.proofs.log.Goals as goal
 
 pub returns : goal.returns

@@ -1,5 +1,4 @@
 -- The node after a node: the rings' answer, at the links.
-use borrow.Author.Rules.{rules}
 use Rattle.engine_index.proofs.Changes.FromCalls.{looked_up}
 use Rattle.engine_index.proofs.next.Goals as goal
 

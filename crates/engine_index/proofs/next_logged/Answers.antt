@@ -1,5 +1,4 @@
 -- The node after a node in the log: the rings' answer, at the log.
-use borrow.Author.Rules.{rules}
 use Rattle.engine_index.proofs.Places.Range.{next_in_range, next_out_of_range}
 use Rattle.engine_index.proofs.next_logged.Goals as goal
 

@@ -2,7 +2,6 @@
 use borrow.Author.Tests.{not-true}
 use Rattle.engine_promises.proofs.ShortBuffer.{unfit_judged}
 use Rattle.engine_lowest.proofs.LowestCalls.{refused_lowest, none_lowest, far_lowest, lowest_judged}
-use borrow.Author.Rules.{rules}
 use Rattle.engine_lowest.proofs.judge_lowest.Goals as goal
 
 -- ---- refusals

@@ -1,7 +1,6 @@
 -- A buffer that is too short and a line with no event are refused; else the station and its time are the calendar's.
 use borrow.Author.Tests.{not-true}
 use Rattle.engine_lowest.proofs.LowestCalls.{unfit_next, none_next, next_told}
-use borrow.Author.Rules.{rules}
 use Rattle.engine_lowest.proofs.next.Goals as goal
 
 pub returns-then-not-fits : goal.returns-then-not-fits

@@ -1,6 +1,5 @@
 -- A run lowest that is judged as refused is refused (`lowest-refusal`); else the calendar's station is run, and the count passed on (`lowest-run`).
 use Rattle.engine_lowest.proofs.LowestCalls.{lowest_refusal, lowest_run}
-use borrow.Author.Rules.{rules}
 use Rattle.engine_lowest.proofs.run_lowest.Goals as goal
 
 pub returns-in-Refused : goal.returns-in-Refused

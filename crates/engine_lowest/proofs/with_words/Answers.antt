@@ -1,7 +1,6 @@
 -- By the case of the answer.
 use mathlib.Core.Path.{sym, ap}
 use Rattle.engine_lowest.specs.Steps.{with_words}
-use borrow.Author.Rules.{rules}
 use Rattle.engine_lowest.proofs.with_words.Goals as goal
 
 pub returns-in-Refused : goal.returns-in-Refused

@@ -1,7 +1,6 @@
 -- A new calendar, and an index with all slots free (`cleared`); where the code does nothing, the bytes have no room (`clears-none`).
 use Rattle.engine_events.proofs.Fitting.{part_within}
 use Rattle.engine_moves.proofs.Changes.Cleared.{cleared, clears_none}
-use borrow.Author.Rules.{rules}
 use Rattle.engine_moves.proofs.clear.Goals as goal
 
 pub slice_bounds-open-start : goal.slice_bounds-open-start

@@ -2,7 +2,6 @@
 -- (`hold-outside`).
 use Rattle.engine_moves.proofs.FromCalls.CallsOfChanges.{tell_room}
 use Rattle.engine_moves.proofs.FromCalls.Hold.{hold_made, hold_unfit, hold_outside, hold_slotless}
-use borrow.Author.Rules.{rules}
 use Rattle.engine_moves.proofs.hold.Goals as goal
 
 pub tell-requires : goal.tell-requires

@@ -2,7 +2,6 @@
 use Rattle.engine_events.proofs.Fitting.{part_within}
 use Rattle.engine_moves.proofs.FloorRaised.{raised, raises_none}
 use Rattle.engine_events.proofs.LeastStation.{nothing_fits}
-use borrow.Author.Rules.{rules}
 use Rattle.engine_moves.proofs.raise.Goals as goal
 
 pub slice_bounds-advance-start : goal.slice_bounds-advance-start

@@ -1,6 +1,5 @@
 -- The first of all held events leaves (`release-made`).
 use Rattle.engine_moves.proofs.FromCalls.Leave.{release_made}
-use borrow.Author.Rules.{rules}
 use Rattle.engine_moves.proofs.release.Goals as goal
 
 pub returns : goal.returns

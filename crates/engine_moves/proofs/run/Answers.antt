@@ -4,7 +4,6 @@ use Rattle.engine_moves.proofs.FromCalls.CallsOfChanges.{tell_room}
 use Rattle.engine_moves.proofs.FromCalls.NoneHeld.{nowhere_fits, nowhere_slot, nowhere_target}
 use Rattle.engine_moves.proofs.FromCalls.Run.{run_size, run_made, run_none}
 use Rattle.engine_index.proofs.Places.FoundSlot.{finds}
-use borrow.Author.Rules.{rules}
 use Rattle.engine_moves.proofs.run.Goals as goal
 
 -- ---- the event has run

@@ -1,7 +1,6 @@
 -- The calendar is told what stands at the first unrun node: nothing (`tell_none`), or an event's time (`tell-time`).
 use native.Mathlib.Omega.{arith}
 use Rattle.engine_moves.proofs.Bytes.StationTime.{tell_none, tell_time}
-use borrow.Author.Rules.{rules}
 use Rattle.engine_moves.proofs.tell.Goals as goal
 
 pub returns-then-x-eq0 : goal.returns-then-x-eq0

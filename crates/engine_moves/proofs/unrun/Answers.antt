@@ -3,7 +3,6 @@
 use native.Mathlib.Omega.{arith}
 use Rattle.engine_moves.proofs.FromCalls.CallsOfChanges.{tell_room}
 use Rattle.engine_moves.proofs.FromCalls.Unrun.{unrun_size, unrun_made, unrun_unfit, unrun_slotless, unrun_other, unrun_stray}
-use borrow.Author.Rules.{rules}
 use Rattle.engine_moves.proofs.unrun.Goals as goal
 
 -- ---- the event is unrun

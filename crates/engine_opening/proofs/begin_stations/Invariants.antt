@@ -1,8 +1,6 @@
 -- Each turn begins one station more (`begun-on`), until all have begun (`begun_all`).
 use Prim.Native.Nat.{◌-◌, ◌≤◌}
-use native.Mathlib.Omega.{arith}
-use borrow.Author.Rules.{rules}
-use Rattle.engine_opening.proofs.Beginning.{BegunTo, begun_none, begun_all, begun_on}
+use Rattle.engine_opening.proofs.Beginning.{BegunTo, begun_all}
 use Rattle.engine_opening.proofs.begin_stations.Given as goal
 
 abbrev pub invariant-loop-s : goal.invariant-loop-s

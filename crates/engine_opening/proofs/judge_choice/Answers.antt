@@ -1,7 +1,6 @@
 -- The table has the arity or not, then the tests in order.
 use mathlib.Core.Path.{subst}
 use native.Mathlib.Omega.{arith}
-use borrow.Author.Rules.{rules}
 use Rattle.calendar_shapes.specs.declared.Entry.{Entry}
 use Rattle.calendar_shapes.specs.declared.Entry.TheVariants.{At}
 use Rattle.calendar_shapes.specs.Rule.{EntryIs}

@@ -1,6 +1,5 @@
 -- The event is added, and the word of the next number is stored (`added-post`).
 use native.Mathlib.Omega.{arith}
-use borrow.Author.Rules.{rules}
 use Rattle.engine_posting.proofs.Posting.{added_post}
 use Rattle.engine_posting.proofs.add_post.Goals as goal
 

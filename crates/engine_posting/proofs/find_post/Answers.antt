@@ -1,10 +1,9 @@
 -- The search: no slot passed so far holds the post; a slot that does ends it (`finds-at`), and so does the last slot (`finds-none`).
 use mathlib.Core.Path.{◌≡◌, sym, ◌∙◌}
 use mathlib.Core.Bool.{false}
-use Prim.Native.Nat.{ℕ, ◌-◌, ◌≤◌, ◌<◌}
+use Prim.Native.Nat.{◌-◌}
 use native.Mathlib.Omega.{arith}
 use borrow.Author.Count.{below_more}
-use borrow.Author.Rules.{rules}
 use Rattle.engine_index.specs.Layout.{node_of}
 use Rattle.engine_posting.specs.Steps.{is_post_at}
 use Rattle.engine_posting.proofs.PostSlots.{finds_none, finds_at}

@@ -1,13 +1,8 @@
 -- The search: no slot passed so far holds the post; a slot that does ends it (`finds-at`), and so does the last slot (`finds-none`).
-use mathlib.Core.Path.{◌≡◌, sym, ◌∙◌}
+use mathlib.Core.Path.{◌≡◌}
 use mathlib.Core.Bool.{false}
 use Prim.Native.Nat.{ℕ, ◌-◌, ◌≤◌, ◌<◌}
-use native.Mathlib.Omega.{arith}
-use borrow.Author.Count.{below_more}
-use borrow.Author.Rules.{rules}
-use Rattle.engine_index.specs.Layout.{node_of}
 use Rattle.engine_posting.specs.Steps.{is_post_at}
-use Rattle.engine_posting.proofs.PostSlots.{finds_none, finds_at}
 use Rattle.engine_posting.proofs.find_post.Given as goal
 
 abbrev pub invariant-loop-i : goal.invariant-loop-i

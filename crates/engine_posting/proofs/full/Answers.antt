@@ -1,6 +1,5 @@
 -- No place is free where there is no free node.
 use Rattle.engine_promises.proofs.FreePlaces.{full_is}
-use borrow.Author.Rules.{rules}
 use Rattle.engine_posting.proofs.full.Goals as goal
 
 pub returns : goal.returns

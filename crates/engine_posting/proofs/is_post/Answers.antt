@@ -1,5 +1,4 @@
 -- The status first (`unheld`), then the event: its source (`unposted`) and its number (`numbered`).
-use borrow.Author.Rules.{rules}
 use lib.Dec.{lit<}
 use Rattle.engine_posting.proofs.PostTest.{unheld, unposted, numbered}
 use Rattle.engine_posting.proofs.is_post.Goals as goal

@@ -1,5 +1,4 @@
 -- A buffer that is too short is refused, then a number that no slot has (`unknown-post`); else the node is that of the post (`known-post`).
-use borrow.Author.Rules.{rules}
 use borrow.Author.Tests.{not-true, not-false}
 use Rattle.engine_events.proofs.Fitting.{fits_true}
 use Rattle.engine_promises.proofs.ShortBuffer.{unfit_judged}

@@ -1,5 +1,4 @@
 -- A post that is judged as refused is refused (`post-refusal`); else its event is added (`post-done`).
-use borrow.Author.Rules.{rules}
 use Rattle.engine_posting.proofs.Posting.{post_refusal, post_done}
 use Rattle.engine_posting.proofs.post.Goals as goal
 

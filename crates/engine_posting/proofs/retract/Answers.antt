@@ -1,5 +1,4 @@
 -- A retract that is judged as refused is refused (`retract-refusal`); else the post is removed (`retract-done`).
-use borrow.Author.Rules.{rules}
 use Rattle.engine_posting.proofs.Retracting.{retract_refusal, retract_done}
 use Rattle.engine_posting.proofs.retract.Goals as goal
 

@@ -1,6 +1,5 @@
 -- The word, where it is at most 256.
 use native.Mathlib.Omega.{arith}
-use borrow.Author.Rules.{rules}
 use lib.Dec.{lit<}
 use Rattle.engine_promises.proofs.Bounds.{over, within}
 use Rattle.engine_promises.proofs.stations.Goals as goal

@@ -143,8 +143,7 @@ pub undo_from-loop-e-preserved : goal.undo_from-loop-e-preserved
 undo_from-loop-e-preserved t c =
     let i = c.loop-e.invariant in
     let u = c.undo-k.ensures in
-    let v = test_at c.args.n c.last_run-x.result c.loop-e.b c.args.e c.slot.ensures c.before-in-loop-e.ensures c.if-before.false in
-    (
+    let v = test_at c.args.n c.last_run-x.result c.loop-e.b c.args.e c.slot.ensures c.before-in-loop-e.ensures c.if-before.false in (
       after_header_on i.0 u.frame,
       omega (arith, i.1, u.fewer),
       goes_on (omega arith) c.args.e c.last_run-x.ensures (λ z. omega (arith, z)) v i.2 u.undoes,

@@ -4,7 +4,6 @@ use mathlib.Core.Path.{refl}
 use mathlib.Core.Logic.{◌⊎◌, inl, inr}
 use Prim.Native.Nat.{ℕ, ◌≤◌, ◌<◌}
 use native.Mathlib.Omega.{arith}
-use borrow.Author.Rules.{rules}
 use Rattle.engine_events.proofs.AfterHeader.{after_header_same, after_header_on}
 use Rattle.engine_rollback.proofs.RunCount.{runs_few}
 use Rattle.engine_rollback.proofs.FromCalls.{adds, adds_out, adds_else}

@@ -1,6 +1,5 @@
 -- A line of more than 256 stations removes nothing (`removes-else`); else every target is below n (`removes`).
 use native.Mathlib.Omega.{arith}
-use borrow.Author.Rules.{rules}
 use Rattle.engine_events.proofs.AfterHeader.{after_header_same}
 use Rattle.engine_rollback.proofs.RunCount.{runs_few}
 use Rattle.engine_rollback.proofs.FromCalls.{removes, removes_else}

@@ -1,6 +1,5 @@
 -- The last run event of a station tells: where there is none (`ended-empty`), or it is before e (`ended-before`), nothing is to be undone.
 use native.Mathlib.Omega.{arith}
-use borrow.Author.Rules.{rules}
 use Rattle.engine_rollback.proofs.UndoTurns.{goes_at_first, test_at, ended_empty, ended_before, undoes_from}
 use Rattle.engine_rollback.proofs.settled.Goals as goal
 

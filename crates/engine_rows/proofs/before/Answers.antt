@@ -1,7 +1,6 @@
 -- Where the times differ they decide; elsewhere the events are compared.
 use Rattle.line.specs.Event.{before as isBefore}
 use mathlib.Core.Path.{◌∙◌, ap}
-use borrow.Author.Rules.{rules}
 use Rattle.entry.proofs.EntryLaws.{told_by_time}
 use Rattle.engine_rows.proofs.before.Goals as goal
 

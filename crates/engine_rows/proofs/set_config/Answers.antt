@@ -1,7 +1,6 @@
 -- The call's place is the station's row.
 use Rattle.engine_records.specs.Records.{put_config}
 use mathlib.Core.Path.{◌∙◌, ap}
-use borrow.Author.Rules.{rules}
 use Rattle.engine_rows.proofs.set_config.Goals as goal
 
 pub returns : goal.returns

@@ -1,7 +1,6 @@
 -- The call's place is the slot's row.
 use Rattle.entry.specs.Entry.{put_event}
 use mathlib.Core.Path.{◌∙◌, ap}
-use borrow.Author.Rules.{rules}
 use Rattle.engine_rows.proofs.set_event.Goals as goal
 
 pub returns : goal.returns

@@ -1,7 +1,6 @@
 -- The test decides between the store and nothing.
 use mathlib.Core.Path.{refl}
 use native.Mathlib.Omega.{arith}
-use borrow.Author.Rules.{rules}
 use Rattle.engine_rows.proofs.set_header.Goals as goal
 
 pub returns-then-i-ge8 : goal.returns-then-i-ge8

@@ -3,7 +3,6 @@ use Prim.Native.Nat.{◌+◌, ◌*◌}
 use Rattle.words.specs.Le.{store_at}
 use mathlib.Core.Path.{◌∙◌, ap, refl}
 use native.Mathlib.Omega.{arith}
-use borrow.Author.Rules.{rules}
 use Rattle.engine_rows.proofs.set_number.Goals as goal
 
 pub returns-then-k-ge4 : goal.returns-then-k-ge4

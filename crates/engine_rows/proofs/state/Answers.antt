@@ -2,7 +2,6 @@
 use Prim.Native.Nat.{◌+◌}
 use Rattle.engine_records.specs.Records.{state_at}
 use mathlib.Core.Path.{◌∙◌, ap}
-use borrow.Author.Rules.{rules}
 use Rattle.engine_rows.proofs.state.Goals as goal
 
 pub returns : goal.returns

@@ -1,7 +1,6 @@
 -- The call's place is the slot's row.
 use Rattle.words.specs.Le.{load_at}
 use mathlib.Core.Path.{◌∙◌, ap}
-use borrow.Author.Rules.{rules}
 use Rattle.engine_rows.proofs.time.Goals as goal
 
 pub returns : goal.returns

@@ -2,7 +2,6 @@
 use mathlib.Core.Path.{refl}
 use native.Mathlib.Omega.{arith}
 use Rattle.engine_events.proofs.AfterHeader.{after_header_same}
-use borrow.Author.Rules.{rules}
 use Rattle.engine_running.proofs.add_send.Goals as goal
 
 pub returns-in-Nothing : goal.returns-in-Nothing

@@ -1,7 +1,6 @@
 -- The first free node and the one after it say how many places are free.
 use mathlib.Core.Path.{sym, ◌∙◌}
 use Rattle.engine_promises.proofs.FreePlaces.{room_none, room_one, room_two}
-use borrow.Author.Rules.{rules}
 use Rattle.engine_running.proofs.free_places.Goals as goal
 
 pub returns-then-x-eq0 : goal.returns-then-x-eq0

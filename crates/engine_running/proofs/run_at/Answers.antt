@@ -1,6 +1,5 @@
 -- A run that is judged as refused is refused (`run-refusal`); else the event is run (`run-accepted`).
 use Rattle.engine_running.proofs.RunCalls.{run_refusal, run_accepted}
-use borrow.Author.Rules.{rules}
 use Rattle.engine_running.proofs.run_at.Goals as goal
 
 pub returns-in-Refused : goal.returns-in-Refused

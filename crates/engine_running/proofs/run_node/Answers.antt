@@ -2,7 +2,6 @@
 use native.Mathlib.Omega.{arith}
 use Rattle.engine_events.proofs.AfterHeader.{after_header_on}
 use Rattle.engine_running.proofs.RunCalls.{node_run}
-use borrow.Author.Rules.{rules}
 use Rattle.engine_running.proofs.run_node.Goals as goal
 
 pub overflow_add-result : goal.overflow_add-result

@@ -1,6 +1,5 @@
 -- A number that is no station's is refused (`far-station`); else that station of the line is run.
 use Rattle.engine_running.proofs.RunCalls.{far_station, station_run}
-use borrow.Author.Rules.{rules}
 use Rattle.engine_running.proofs.run_station.Goals as goal
 
 pub returns-then-station-gt65535 : goal.returns-then-station-gt65535

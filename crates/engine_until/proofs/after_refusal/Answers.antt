@@ -1,7 +1,6 @@
 -- The test's three numbers are those that end nothing.
 use native.Mathlib.Omega.{arith}
 use borrow.Author.Tests.{eqb-false}
-use borrow.Author.Rules.{rules}
 use Rattle.engine_until.specs.Steps.{on, ends}
 use Rattle.engine_until.proofs.after_refusal.Goals as goal
 

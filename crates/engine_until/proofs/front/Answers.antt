@@ -1,6 +1,5 @@
 -- The least unrun time is compared with the time.
 use native.Mathlib.Omega.{arith}
-use borrow.Author.Rules.{rules}
 use Rattle.engine_until.proofs.TurnLaws.{front_idle, front_before, front_after}
 use Rattle.engine_until.proofs.front.Goals as goal
 

@@ -1,9 +1,7 @@
 -- Each call is one more of the list.
-use mathlib.Core.Path.{◌≡◌, refl, ◌∙◌}
+use mathlib.Core.Path.{refl, ◌∙◌}
 use native.Mathlib.Omega.{arith}
-use borrow.Author.Rules.{rules}
-use lib.ListN.{length}
-use Rattle.engine_until.proofs.TurnLaws.{RunsSoFar, no_runs, more_runs, stretch_ran, stretch_refused}
+use Rattle.engine_until.proofs.TurnLaws.{no_runs, more_runs, stretch_ran, stretch_refused}
 use Rattle.engine_until.proofs.run_some.Goals as goal
 
 pub shape_of-b-in-Refused : goal.shape_of-b-in-Refused

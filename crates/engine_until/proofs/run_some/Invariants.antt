@@ -1,9 +1,7 @@
 -- Each call is one more of the list.
-use mathlib.Core.Path.{◌≡◌, refl, ◌∙◌}
-use native.Mathlib.Omega.{arith}
-use borrow.Author.Rules.{rules}
+use mathlib.Core.Path.{◌≡◌}
 use lib.ListN.{length}
-use Rattle.engine_until.proofs.TurnLaws.{RunsSoFar, no_runs, more_runs, stretch_ran, stretch_refused}
+use Rattle.engine_until.proofs.TurnLaws.{RunsSoFar}
 use Rattle.engine_until.proofs.run_some.Given as goal
 
 abbrev pub invariant-loop-left : goal.invariant-loop-left

@@ -1,9 +1,7 @@
 -- Each turn's calls are joined to the list.
-use mathlib.Core.Path.{◌≡◌, refl, ◌∙◌}
+use mathlib.Core.Path.{refl, ◌∙◌}
 use native.Mathlib.Omega.{arith}
-use borrow.Author.Rules.{rules}
-use lib.ListN.{length}
-use Rattle.engine_until.proofs.TurnLaws.{Turned, none_turned, turned_more, until_ends, turns_out}
+use Rattle.engine_until.proofs.TurnLaws.{none_turned, turned_more, until_ends, turns_out}
 use Rattle.engine_until.proofs.run_until.Goals as goal
 
 pub shape_of-b-in-End : goal.shape_of-b-in-End

@@ -1,7 +1,6 @@
 -- Done where the times are equal, busy where 17 was met and nothing written; else the refusal says it.
 use native.Mathlib.Omega.{arith}
 use borrow.Author.Tests.{eqb-true}
-use borrow.Author.Rules.{rules}
 use Rattle.engine_until.specs.Steps.{reached, ran, busy, refused}
 use Rattle.engine_until.proofs.settle.Goals as goal
 

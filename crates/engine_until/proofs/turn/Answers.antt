@@ -1,5 +1,4 @@
 -- The stretch's calls, and the commit after them.
-use borrow.Author.Rules.{rules}
 use Rattle.engine_until.proofs.TurnLaws.{turn_done, turn_refused}
 use Rattle.engine_until.proofs.turn.Goals as goal
 
