@@ -3,7 +3,6 @@ use mathlib.Core.Path.{sym, ◌∙◌}
 use native.Mathlib.Omega.{arith}
 use Rattle.account_parts.specs.Part.{entry_at}
 use Rattle.account_parts.proofs.OneEntry.{out_by_time, out_by_target, out_by_source, out_by_matter}
-use borrow.Author.Rules.{rules}
 use Rattle.account_parts.proofs.entry_out.Goals as goal
 
 pub returns-then-load64-gt-HORIZON : goal.returns-then-load64-gt-HORIZON

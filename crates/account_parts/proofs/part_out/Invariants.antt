@@ -1,13 +1,8 @@
 -- The first k entries are tested, and none of them is wrong.
-use mathlib.Core.Path.{◌≡◌, refl, sym, ◌∙◌}
+use mathlib.Core.Path.{◌≡◌}
 use mathlib.Core.Bool.{false}
-use Prim.Native.Nat.{◌-◌, ◌/◌, ◌%◌, ◌≤◌}
-use native.Mathlib.Nat.{div-add-mod'}
-use native.Mathlib.Omega.{arith}
-use borrow.Author.Tests.{ne_eqb}
-use lib.ListN.{length}
-use Rattle.account_parts.specs.Part.{first_entries, entries_of, any_entry_out, part_out}
-use Rattle.account_parts.proofs.FirstEntries.{any_next, any_here}
+use Prim.Native.Nat.{◌-◌, ◌≤◌}
+use Rattle.account_parts.specs.Part.{first_entries, any_entry_out}
 use Rattle.account_parts.proofs.part_out.Given as goal
 
 abbrev pub invariant-loop-k : goal.invariant-loop-k
