@@ -5,23 +5,12 @@ use Prim.Native.Nat.{ℕ, ◌≤◌, ◌<◌}
 use native.Mathlib.Omega.{arith}
 use lib.Dec.{leb}
 use borrow.Author.Tests.{leb-true, leb-false}
-use denote.Enum.Declared.{tag_of}
-use Rattle.bench_parsing.specs.contracts.Total as T
-use Rattle.bench_parsing.specs.contracts.Number as N
-use Rattle.bench_parsing.specs.declared.Total.{Total}
 use Rattle.bench_parsing.specs.declared.Total.TheVariants.{Sum, Over}
-use Rattle.bench_parsing.specs.declared.Number.{Number}
-use Rattle.bench_parsing.specs.declared.Number.TheVariants.{Value, Absent}
 use Rattle.bench_parsing.specs.Steps.{total_of}
 
-pub absent : (r : Number) → tag_of N.the_type r ≡ 1 → r ≡ Absent
-absent (Value v next) t = absurd (omega arith)
-absent Absent t = refl
-
 -- a total that is over 64 bits
-pub over : (w : Total) (t : ℕ) → tag_of T.the_type w ≡ 1 → w ≡ total_of t → 18446744073709551615 < t
-over (Sum v) t o e = absurd (omega arith)
-over Over t o e = go (leb t 18446744073709551615) refl e
+pub over : (t : ℕ) → Over ≡ total_of t → 18446744073709551615 < t
+over t e = go (leb t 18446744073709551615) refl e
   where
     go : (b : Bool) → leb t 18446744073709551615 ≡ b → Over ≡ cond b (Sum t) Over → 18446744073709551615 < t
     go true l h = let q : ◌≡◌ {A = ℕ} 0 1 = cc in absurd (omega arith)

@@ -1,4 +1,3 @@
 pub mod Appending
 pub mod Backward
 pub mod Room
-pub mod TariffCases

@@ -1,11 +1,10 @@
 -- The line is the word commit with one number after it, or it is refused.
 use borrow.Author.Rules.{rules}
 use Rattle.bench_parsing.proofs.Accepting.{refuses_commit, takes_commit}
-use Rattle.bench_parsing.proofs.Cases.{absent}
 use Rattle.bench_parsing.proofs.parse_commit.Goals as goal
 
 pub returns-in_default : goal.returns-in_default
-returns-in_default c = refuses_commit _ c.requires (c.last_number.ensures.absent (absent _ c.in_default.keys2))
+returns-in_default c = refuses_commit _ c.requires (c.last_number.ensures.absent c.in_default.is)
 
 pub returns : goal.returns
 returns c =

@@ -1,7 +1,6 @@
 -- The line is the word run alone, or with one number after it, or it is refused.
 use borrow.Author.Rules.{rules}
 use Rattle.bench_parsing.proofs.Accepting.{refuses_run, takes_run, takes_station}
-use Rattle.bench_parsing.proofs.Cases.{absent}
 use Rattle.bench_parsing.proofs.parse_run.Goals as goal
 
 pub returns-then-line-eq3 : goal.returns-then-line-eq3
@@ -9,7 +8,7 @@ returns-then-line-eq3 c = takes_run _ c.requires c.if-line-eq3.true
 
 pub returns-in_default : goal.returns-in_default
 returns-in_default c =
-    refuses_run _ c.requires c.if-line-eq3.false (c.last_number.ensures.absent (absent _ c.in_default.keys2))
+    refuses_run _ c.requires c.if-line-eq3.false (c.last_number.ensures.absent c.in_default.is)
 
 pub returns : goal.returns
 returns c =

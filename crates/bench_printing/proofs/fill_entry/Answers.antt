@@ -8,16 +8,11 @@ use Rattle.bench_command.specs.Lines.{spaced, entry_line}
 use Rattle.bench_printing.proofs.Appending.{then, read_as}
 use Rattle.bench_printing.proofs.fill_entry.Goals as goal
 
--- the search does not look so far back by itself
-pub shape_of-out : goal.shape_of-out
-shape_of-out c =
-    search rules
-
 pub returns : goal.returns
 unfolding spaced entry_line
 returns c =
     let target = then c.append_number-a.ensures c.append_after-c.ensures in
-    let kind = then target (read_as (ap (λ ((goal.at.returns c).After-append_after-g : ℕ). 32 ∷ decimal (goal.at.returns c).After-append_after-g) c.kind_of.ensures) c.append_after-d.ensures) in
+    let kind = then target (read_as (ap (λ (n : ℕ). 32 ∷ decimal n) c.kind_of.ensures) c.append_after-d.ensures) in
     let number = then (then kind c.append_after-f.ensures) c.append_after-g.ensures in
-    let value = then number (read_as (ap (λ ((goal.at.returns c).After-append_after-g : ℕ). 32 ∷ decimal (goal.at.returns c).After-append_after-g) c.value_of.ensures) c.append_after-h.ensures) in
+    let value = then number (read_as (ap (λ (n : ℕ). 32 ∷ decimal n) c.value_of.ensures) c.append_after-h.ensures) in
     then value c.append_byte.ensures

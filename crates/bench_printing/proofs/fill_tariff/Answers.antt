@@ -3,7 +3,6 @@ use borrow.Author.Rules.{rules}
 use mathlib.Core.Path.{sym, ap}
 use Rattle.bench_command.specs.TariffLine.{tariff_line}
 use Rattle.bench_printing.proofs.Appending.{read_as}
-use Rattle.bench_printing.proofs.TariffCases.{is_no}
 use Rattle.bench_printing.proofs.fill_tariff.Goals as goal
 
 pub returns-in-Yes : goal.returns-in-Yes
@@ -13,4 +12,4 @@ returns-in-Yes c = read_as (ap tariff_line (sym c.in-Yes.is)) c.print_one.ensure
 pub returns-in-No : goal.returns-in-No
 unfolding tariff_line
 returns-in-No c =
-    read_as (ap tariff_line (sym (is_no c.args.t c.in-No.keys2))) c.append_word.ensures
+    read_as (ap tariff_line (sym c.in-No.is)) c.append_word.ensures

@@ -1,11 +1,10 @@
 -- The number after a space, where it ends the line.
 use borrow.Author.Rules.{rules}
 use Rattle.text_reading.proofs.Found.{last_some, last_none, last_more}
-use Rattle.text_reading.proofs.Cases.{absent}
 use Rattle.text_reading.proofs.last_number.Goals as goal
 
 pub returns-in_default : goal.returns-in_default
-returns-in_default c = last_none _ _ _ _ c.number_after.ensures (absent _ c.in_default.keys2)
+returns-in_default c = last_none _ _ _ _ c.number_after.ensures c.in_default.is
 
 pub returns-then-a-line : goal.returns-then-a-line
 returns-then-a-line c = last_some _ _ _ _ c.number_after.ensures _ _ c.in-Value.is c.if-a-line.true
