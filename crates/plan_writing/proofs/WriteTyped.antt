@@ -5,9 +5,9 @@ use Prim.Native.Nat.{ℕ}
 use mathlib.Core.List.{List}
 use mathlib.Core.Path.{◌≡◌}
 use lib.ListN.{length}
-use mir.Syntax.{Lifetime, w8, w16, w32, w64}
+use mir.Syntax.{Lifetime, w16, w32, w64}
 use mir.Val.{Val}
-use base.Fml.{Fml, Lft}
+use base.Fml.{Lft}
 use denote.Array.{Array}
 use denote.Builtin.{u8}
 use denote.Ref.{Bor}

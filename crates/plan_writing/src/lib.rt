@@ -259,8 +259,7 @@ fn second_pen(a: WriteAnswer, p: Pen) -> Pen
 // Nothing is done: what the type of a list says of each of its records. Proved by a walk of its MIR, by hand.
 fn known(list: &[Station])
     ensures { AreSized list.now }
-{
-}
+{}
 
 // A pass over the first stations of a list, as many as the pen says.
 fn each(list: &[Station], out: &mut [u8], w: Pen) -> Pen

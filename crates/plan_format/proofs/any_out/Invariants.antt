@@ -1,10 +1,8 @@
 -- The bytes not yet tested have one out of range exactly where the whole name has.
-use Prim.Native.Nat.{ℕ, ◌-◌, ◌≤◌}
-use native.Mathlib.Omega.{arith}
-use mathlib.Core.Path.{◌≡◌, refl, sym, ◌∙◌, ap}
+use Prim.Native.Nat.{◌-◌, ◌≤◌}
+use mathlib.Core.Path.{◌≡◌}
 use lib.ListN.{length, drop}
 use Rattle.plan_format.specs.Plan.{any_out}
-use Rattle.plan_format.proofs.Names.{any_low, any_high, any_in, any_end}
 use Rattle.plan_format.proofs.any_out.Given as goal
 
 abbrev pub invariant-loop-i : goal.invariant-loop-i

@@ -4,7 +4,6 @@ use native.Mathlib.Omega.{arith}
 use mathlib.Core.Path.{sym, ◌∙◌}
 use Rattle.plan_format.specs.Plan.{begins}
 use Rattle.plan_format.proofs.Pairs.{begins_after}
-use borrow.Author.Rules.{rules}
 use Rattle.plan_format.proofs.begin_of.Goals as goal
 
 pub returns-then-station-eq0 : goal.returns-then-station-eq0

@@ -1,7 +1,6 @@
 -- Each number is its load.
 use mathlib.Core.Path.{◌∙◌, ap}
 use Rattle.plan_format.specs.Plan.{config_at}
-use borrow.Author.Rules.{rules}
 use Rattle.plan_format.proofs.config_at.Goals as goal
 
 pub returns : goal.returns

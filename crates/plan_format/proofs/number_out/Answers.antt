@@ -4,7 +4,6 @@ use mathlib.Core.Bool.{false}
 use lib.Dec.{ltb}
 use borrow.Author.Tests.{lt-ltb, le-ltb}
 use Rattle.line.specs.Station.{parent_out, number_out}
-use borrow.Author.Rules.{rules}
 use Rattle.plan_format.proofs.number_out.Goals as goal
 
 pub returns-then-parent_out : goal.returns-then-parent_out

@@ -1,7 +1,6 @@
 -- The tests in their order decide the whole one.
 use borrow.Author.Tests.{eq-eqb, ne_eqb, lt-ltb, le-ltb}
 use Rattle.plan_format.specs.Plan.{pair_wrong}
-use borrow.Author.Rules.{rules}
 use Rattle.plan_format.proofs.pair_wrong.Goals as goal
 
 pub returns-then-at-begin_of : goal.returns-then-at-begin_of

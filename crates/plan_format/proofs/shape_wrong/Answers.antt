@@ -1,6 +1,5 @@
 -- The tests in their order decide the whole one.
 use borrow.Author.Tests.{lt-ltb, le-ltb}
-use borrow.Author.Rules.{rules}
 use Rattle.plan_format.proofs.shape_wrong.Goals as goal
 
 pub returns-then-plan-lt2 : goal.returns-then-plan-lt2

@@ -6,7 +6,6 @@ use borrow.Author.Tests.{le-leb, lt-leb}
 use Rattle.plan_format.specs.declared.NameAnswer.TheVariants.{Part}
 use Rattle.plan_format.proofs.Accepted.{accepted}
 use Rattle.plan_naming.proofs.Parts.{place_in, naming_in, station_right}
-use borrow.Author.Rules.{rules}
 use Rattle.plan_naming.proofs.place_of.Goals as goal
 
 pub returns-then-n-station : goal.returns-then-n-station

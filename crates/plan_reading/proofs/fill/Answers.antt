@@ -1,5 +1,5 @@
 -- The records before k are the plan's first k stations, and the others stand as they did.
-use Rattle.std.proofs.Common.{◌≡◌, ◌≤◌, ◌<◌, length, ap, sym, ◌∙◌, arith}
+use Rattle.std.proofs.Common.{◌≡◌, ◌<◌, length, ap, sym, ◌∙◌, arith}
 use Rattle.plan_format.specs.Plan.{pair_wrong}
 use Rattle.plan_format.proofs.Lows.{lowest_none}
 use Rattle.plan_reading.proofs.Filled.{filled, filled_is, filled_zero, filled_next}

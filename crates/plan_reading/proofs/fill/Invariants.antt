@@ -1,5 +1,5 @@
 -- The first k records are set.
-use Rattle.std.proofs.Common.{◌-◌, ◌≡◌, ◌≤◌, length}
+use Rattle.std.proofs.Common.{◌-◌, ◌≡◌, ◌≤◌}
 use Rattle.plan_reading.proofs.Filled.{filled}
 use Rattle.plan_reading.proofs.fill.Given as goal
 

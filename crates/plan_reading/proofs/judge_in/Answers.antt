@@ -4,7 +4,6 @@ use borrow.Author.Tests.{lt-ltb, le-ltb}
 use Rattle.plan_format.specs.Reading.{judging}
 use Rattle.plan_format.proofs.Answers.{in_room, reading_in}
 use Rattle.plan_format.specs.declared.ReadAnswer.TheVariants.{Stations}
-use borrow.Author.Rules.{rules}
 use Rattle.plan_reading.proofs.Promised.{judges_in}
 use Rattle.plan_reading.proofs.judge_in.Goals as goal
 

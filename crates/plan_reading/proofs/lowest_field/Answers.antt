@@ -1,9 +1,6 @@
 -- No station below k is wrong.
-use Prim.Native.Nat.{◌-◌, ◌≤◌}
 use native.Mathlib.Omega.{arith}
 use mathlib.Core.Path.{◌≡◌, ◌∙◌}
-use borrow.Author.Rules.{rules}
-use Rattle.plan_format.specs.Lowest.{lowest}
 use Rattle.plan_format.specs.Plan.{field_wrong}
 use Rattle.plan_format.proofs.Lows.{lowest_zero, lowest_next, lowest_found, lowest_end}
 use Rattle.plan_format.proofs.Pairs.{field_is}

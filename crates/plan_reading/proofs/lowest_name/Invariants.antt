@@ -1,12 +1,8 @@
 -- No station below k is wrong, and each pair is right.
 use Prim.Native.Nat.{◌-◌, ◌≤◌}
-use native.Mathlib.Omega.{arith}
-use mathlib.Core.Path.{◌≡◌, ◌∙◌}
-use borrow.Author.Rules.{rules}
+use mathlib.Core.Path.{◌≡◌}
 use Rattle.plan_format.specs.Lowest.{lowest}
 use Rattle.plan_format.specs.Plan.{name_wrong}
-use Rattle.plan_format.proofs.Lows.{lowest_zero, lowest_next, lowest_found, lowest_end, lowest_none}
-use Rattle.plan_format.proofs.Pairs.{name_is}
 use Rattle.plan_reading.proofs.lowest_name.Given as goal
 
 abbrev pub invariant-loop-k : goal.invariant-loop-k

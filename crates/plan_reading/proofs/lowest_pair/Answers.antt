@@ -1,10 +1,6 @@
 -- No station below k is wrong.
-use Prim.Native.Nat.{◌-◌, ◌≤◌}
 use native.Mathlib.Omega.{arith}
-use mathlib.Core.Path.{◌≡◌, sym, ◌∙◌}
-use borrow.Author.Rules.{rules}
-use Rattle.plan_format.specs.Lowest.{lowest}
-use Rattle.plan_format.specs.Plan.{pair_wrong}
+use mathlib.Core.Path.{sym, ◌∙◌}
 use Rattle.plan_format.proofs.Lows.{lowest_zero, lowest_next, lowest_found, lowest_end}
 use Rattle.plan_reading.proofs.lowest_pair.Goals as goal
 

@@ -1,10 +1,9 @@
 -- The copy holds the first bytes of the name, with zeros after them (`upto`).
-use Prim.Native.Nat.{◌-◌, ◌≤◌}
 use native.Mathlib.Omega.{arith}
 use mathlib.Core.Path.{◌≡◌, refl}
 use lib.ListN.{drop, length-drop}
 use lib.Seq.{get_or-drop, length-take-le}
-use Rattle.plan_format.proofs.Names.{upto, upto_next}
+use Rattle.plan_format.proofs.Names.{upto_next}
 use Rattle.plan_reading.proofs.name_at.Goals as goal
 
 pub loop-i-init : goal.loop-i-init

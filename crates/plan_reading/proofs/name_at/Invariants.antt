@@ -1,10 +1,8 @@
 -- The copy holds the first bytes of the name, with zeros after them (`upto`).
 use Prim.Native.Nat.{◌-◌, ◌≤◌}
-use native.Mathlib.Omega.{arith}
-use mathlib.Core.Path.{◌≡◌, refl}
-use lib.ListN.{drop, length-drop}
-use lib.Seq.{get_or-drop, length-take-le}
-use Rattle.plan_format.proofs.Names.{upto, upto_next}
+use mathlib.Core.Path.{◌≡◌}
+use lib.ListN.{drop}
+use Rattle.plan_format.proofs.Names.{upto}
 use Rattle.plan_reading.proofs.name_at.Given as goal
 
 abbrev pub invariant-loop-i : goal.invariant-loop-i

@@ -5,7 +5,6 @@ use mathlib.Core.Path.{◌∙◌}
 use lib.ListN.{take, drop}
 use Rattle.plan_format.specs.Plan.{padded, station_at}
 use Rattle.plan_format.proofs.Pairs.{PairRight, pair_right}
-use borrow.Author.Rules.{rules}
 use Rattle.plan_reading.proofs.station_at.Goals as goal
 
 pub overflow_sub-len : goal.overflow_sub-len

@@ -1,7 +1,6 @@
 -- `answer` meets its contract: each `return` stands after the tests that `answered` makes.
 use Rattle.plan_writing.specs.Steps.{answered}
 use borrow.Author.Tests.{lt-ltb, le-ltb}
-use borrow.Author.Rules.{rules}
 use Rattle.plan_writing.proofs.answer.Goals as goal
 
 pub returns-then-p-lt1 : goal.returns-then-p-lt1

@@ -1,6 +1,6 @@
 -- The pen and the output are those after the first k stations.
 use Rattle.std.proofs.Common.{◌-◌, ◌≡◌, ◌≤◌}
-use Rattle.plan_writing.specs.Steps.{Draft, drafted}
+use Rattle.plan_writing.specs.Steps.{drafted}
 use Rattle.plan_writing.proofs.each.Given as goal
 
 abbrev pub invariant-loop-k : goal.invariant-loop-k

@@ -4,7 +4,6 @@ use Rattle.plan_writing.specs.Steps.{pen_of}
 use mathlib.Core.Bool.{false}
 use Prim.Native.Nat.{ℕ}
 use mathlib.Core.Path.{ap, ◌∙◌}
-use borrow.Author.Rules.{rules}
 use Rattle.plan_writing.proofs.first_pen.Goals as goal
 
 pub pen_of-requires : goal.pen_of-requires

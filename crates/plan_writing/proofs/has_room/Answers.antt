@@ -2,7 +2,6 @@
 use Rattle.plan_writing.proofs.WriteTests.{and_next}
 use mathlib.Core.Path.{refl}
 use borrow.Author.Tests.{le-leb, lt-leb}
-use borrow.Author.Rules.{rules}
 use Rattle.plan_writing.proofs.has_room.Goals as goal
 
 pub returns-then-len-gt16 : goal.returns-then-len-gt16

@@ -1,7 +1,6 @@
 -- `lowest_of` meets its contract: each `return` stands after the tests that `lower` makes.
 use native.Mathlib.Numerals.{add-one}
 use borrow.Author.Tests.{lt-ltb, le-ltb}
-use borrow.Author.Rules.{rules}
 use Rattle.plan_writing.proofs.lowest_of.Goals as goal
 
 pub returns-then-low-k : goal.returns-then-low-k

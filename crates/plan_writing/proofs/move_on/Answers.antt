@@ -2,7 +2,6 @@
 use Rattle.plan_writing.proofs.WriteTests.{counted_most}
 use Rattle.plan_writing.specs.Steps.{moved}
 use native.Mathlib.Omega.{arith}
-use borrow.Author.Rules.{rules}
 use Rattle.plan_writing.proofs.move_on.Goals as goal
 
 pub overflow_add-result-3 : goal.overflow_add-result-3

@@ -4,7 +4,6 @@ use Rattle.plan_writing.specs.Steps.{ready, stepped}
 use native.Mathlib.Omega.{arith}
 use mathlib.Core.Path.{◌≡◌, sym, ◌∙◌}
 use mathlib.Core.Bool.{true}
-use borrow.Author.Rules.{rules}
 use Rattle.plan_writing.proofs.pen_step.Goals as goal
 
 pub returns-then-is_ready : goal.returns-then-is_ready

@@ -3,7 +3,6 @@ use borrow.Author.Tests.{eq-eqb, ne_eqb}
 use Rattle.plan_writing.proofs.WriteStores.{store_sets}
 use mathlib.Core.Path.{◌∙◌}
 use native.Mathlib.Omega.{arith}
-use borrow.Author.Rules.{rules}
 use Rattle.plan_writing.proofs.put_count.Goals as goal
 
 pub returns-then-p-eq0 : goal.returns-then-p-eq0

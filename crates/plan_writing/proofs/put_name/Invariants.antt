@@ -1,12 +1,8 @@
 -- `put_name` meets its contract: the bytes passed are stored.
-use Rattle.plan_writing.proofs.WriteStores.{sets_then}
-use lib.Seq.{sets, length-sets, take-suc, length-take-le}
-use lib.ListN.{length, take, set, get_or}
-use mathlib.Core.List.{List, [], ◌∷◌}
-use native.Mathlib.Numerals.{add-one}
-use mathlib.Core.Path.{◌≡◌, refl, sym, ap, ◌∙◌}
-use native.Mathlib.Omega.{arith}
-use Prim.Native.Nat.{ℕ, ◌+◌, ◌-◌, ◌≤◌, ◌<◌}
+use lib.Seq.{sets}
+use lib.ListN.{take}
+use mathlib.Core.Path.{◌≡◌}
+use Prim.Native.Nat.{◌-◌, ◌≤◌}
 use Rattle.plan_writing.proofs.put_name.Given as goal
 
 abbrev pub invariant-loop-i : goal.invariant-loop-i

@@ -5,7 +5,6 @@ use Rattle.words.specs.Le.{bytes_of}
 use mathlib.Core.Path.{◌∙◌}
 use native.Mathlib.Omega.{arith}
 use Prim.Native.Nat.{◌+◌, ◌*◌}
-use borrow.Author.Rules.{rules}
 use Rattle.plan_writing.proofs.put_pair.Goals as goal
 
 pub returns : goal.returns

@@ -8,7 +8,6 @@ use lib.ListN.{take, length-append}
 use mathlib.Core.List.{List, ◌++◌, append_assoc}
 use mathlib.Core.Path.{◌≡◌, ap, ◌∙◌}
 use Prim.Native.Nat.{ℕ, ◌+◌}
-use borrow.Author.Rules.{rules}
 use Rattle.plan_writing.proofs.put_record.Goals as goal
 
 pub returns : goal.returns

@@ -1,5 +1,4 @@
 -- `second_pen` meets its contract, by the cases of the answer.
-use borrow.Author.Rules.{rules}
 use Rattle.plan_writing.proofs.second_pen.Goals as goal
 
 pub returns-in-Length : goal.returns-in-Length

@@ -1,6 +1,6 @@
 -- The two passes together: what the first finds says how many stations the second writes.
 use Rattle.std.proofs.Common.{◌≡◌, length}
-use Rattle.plan_writing.proofs.WriteLaw.{First, first_held, first_most, second_held, written}
+use Rattle.plan_writing.proofs.WriteLaw.{First, first_most, second_held, written}
 use Rattle.plan_writing.proofs.write.Goals as goal
 
 pub answer-a-requires : goal.answer-a-requires

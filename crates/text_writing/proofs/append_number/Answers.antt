@@ -1,6 +1,5 @@
 -- The digits are written from the last to the first (`store`), those that have room (`leave`).
 use borrow.Author.Rules.{rules}
-use mathlib.Core.Logic.{⊎_elim}
 use mathlib.Core.Path.{◌≡◌, refl}
 use Prim.Native.Nat.{◌≤◌, ◌<◌, ◌^◌}
 use native.Mathlib.Omega.{arith}
@@ -8,6 +7,7 @@ use lib.ListN.{length, length-set}
 use Rattle.text_writing.proofs.Appending.{no_room}
 use Rattle.text_writing.proofs.Backward.{Writing, start, store, leave, finish}
 use Rattle.text_writing.proofs.append_number.Goals as goal
+use Rattle.text_writing.proofs.append_number.Goals.{then-k-room, else-k-room}
 
 pub returns-then-out-at : goal.returns-then-out-at
 returns-then-out-at c = no_room _ _ _ c.if-out-at.true
@@ -21,11 +21,11 @@ loop-k-preserved c =
     let size = c.width-n.ensures in (
       omega arith,
       omega arith,
-      ⊎_elim (λ w. rw w.1 (simp length-set l.2)) (λ w. rw w.1 l.2) c.if-k-room.branch,
-      ⊎_elim
-          (λ w. rw w.1 (store _ _ _ _ size (omega arith) _ _ _ l.3 (omega arith) (omega (arith, w.0.taken))))
-          (λ w. rw w.1 (leave _ _ _ _ size (omega arith) _ _ _ l.3 (omega arith) (omega (arith, w.0.left))))
-          c.if-k-room.branch,
+      elim c.if-k-room.branch [ then-k-room w ↦ rw w.out-is (simp length-set l.2) | else-k-room w ↦ rw w.out-is l.2 ],
+      elim c.if-k-room.branch [
+        | then-k-room w ↦ rw w.out-is (store _ _ _ _ size (omega arith) _ _ _ l.3 (omega arith) (omega (arith, w.if-k-room.true)))
+        | else-k-room w ↦ rw w.out-is (leave _ _ _ _ size (omega arith) _ _ _ l.3 (omega arith) (omega (arith, w.if-k-room.false)))
+      ],
     )
 
 pub returns-then-n-room : goal.returns-then-n-room
