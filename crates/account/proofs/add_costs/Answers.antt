@@ -1,15 +1,14 @@
 -- The costs of the first k entries are added.
 use mathlib.Core.Path.{◌≡◌, sym}
 use mathlib.Core.Bool.{true≢false}
-use mathlib.Core.Logic.{⊎_elim}
-use Prim.Native.Nat.{◌-◌, ◌/◌, ◌≤◌}
+use Prim.Native.Nat.{◌/◌}
 use native.Mathlib.Nat.{div-add-mod'}
 use native.Mathlib.Omega.{arith}
-use borrow.Author.Rules.{rules}
 use lib.ListN.{length}
 use Rattle.account_parts.specs.Part.{entry_at, entries_of}
-use Rattle.account.proofs.Adding.{CostsSoFar, costs_none, costs_beside, costs_next, costs_pass, costs_fit}
+use Rattle.account.proofs.Adding.{costs_none, costs_beside, costs_next, costs_pass, costs_fit}
 use Rattle.account.proofs.add_costs.Goals as goal
+use Rattle.account.proofs.add_costs.Goals.{then-s-n+else-c-load64, else-s-n}
 
 pub loop-k-init : goal.loop-k-init
 loop-k-init c = (omega arith, costs_none _ _ _ _ _ _ c.requires.1 (λ j. omega (arith, c.shared_slice_known-1.given j)))
@@ -54,10 +53,12 @@ loop-k-preserved c =
     let ed = c.load32.ensures in
     let ec = c.cost-c.ensures in (
       omega arith,
-      ⊎_elim
-          (λ w. rw w.4 (costs_next _ _ _ _ _ _ _ h _ _ _ et ed ec w.0.taken c.requires.0 (omega (arith, w.2.ensures, w.3.left))))
-          (λ w. rw w.1 (costs_beside _ _ _ _ _ _ _ h _ _ _ et ed ec w.0.left))
-          c.if-s-n.branch,
+      elim c.if-s-n.branch [
+        | then-s-n+else-c-load64 w ↦
+            rw w.costs-is
+            (costs_next _ _ _ _ _ _ _ h _ _ _ et ed ec w.if-s-n.true c.requires.0 (omega (arith, w.load64.ensures, w.if-c-load64.false)))
+        | else-s-n w ↦ rw w.costs-is (costs_beside _ _ _ _ _ _ _ h _ _ _ et ed ec w.if-s-n.false)
+      ],
     )
 
 pub returns : goal.returns
@@ -66,27 +67,6 @@ returns c =
     let h = c.loop-k.invariant.1 in
     let e : length c.args.part.now / 24 ≡ c.loop-k.k = omega arith in
     record { words = h.words; passes = rw e (sym (costs_fit _ _ _ _ _ _ _ h)); fits = λ _. h.fits; costs = λ _. rw e h.costs }
-
-pub offset_bounds-costs-s : goal.offset_bounds-costs-s
-offset_bounds-costs-s c = omega arith
-
-pub bounds-costs-s : goal.bounds-costs-s
-bounds-costs-s c = omega arith
-
-pub overflow_sub-c : goal.overflow_sub-c
-overflow_sub-c c = omega arith
-
-pub overflow_mul-s : goal.overflow_mul-s
-overflow_mul-s c = omega arith
-
-pub overflow_add-s : goal.overflow_add-s
-overflow_add-s c = omega arith
-
-pub offset_bounds-costs-s-then-s-n : goal.offset_bounds-costs-s-then-s-n
-offset_bounds-costs-s-then-s-n c = omega arith
-
-pub bounds-costs-s-then-s-n : goal.bounds-costs-s-then-s-n
-bounds-costs-s-then-s-n c = omega arith
 
 pub overflow_add-k-in-loop-k-2 : goal.overflow_add-k-in-loop-k-2
 overflow_add-k-in-loop-k-2 c = omega arith

@@ -5,7 +5,6 @@ use borrow.Author.Tests.{le-leb, lt-leb}
 use lib.ListN.{length}
 use Rattle.account.specs.Promises.{charge_of}
 use Rattle.account.proofs.Answers.{room, reads_charge}
-use borrow.Author.Rules.{rules}
 use Rattle.account.proofs.charge.Goals as goal
 
 pub returns-then-space_out : goal.returns-then-space_out

@@ -1,9 +1,6 @@
 -- The charges of the first s stations are 0.
-use Prim.Native.Nat.{◌-◌, ◌≤◌}
 use mathlib.Core.Path.{◌≡◌}
 use native.Mathlib.Omega.{arith}
-use borrow.Author.Rules.{rules}
-use Rattle.account.specs.Steps.{ChargesCleared}
 use Rattle.account.proofs.Storing.{cleared_none, cleared_next}
 use Rattle.account.proofs.clear_charges.Goals as goal
 

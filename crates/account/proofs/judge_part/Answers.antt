@@ -6,7 +6,6 @@ use lib.ListN.{length}
 use Rattle.refusal.specs.Tests.{account_space_out}
 use Rattle.account.proofs.Adding.{no_costs}
 use Rattle.account.proofs.Answers.{Roomy, room, judged_space, judged_part, judged_charge, judged_done}
-use borrow.Author.Rules.{rules}
 use Rattle.account.proofs.judge_part.Goals as goal
 
 -- ---- the answers

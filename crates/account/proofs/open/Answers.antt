@@ -3,7 +3,6 @@ use mathlib.Core.Path.{sym, ◌∙◌}
 use native.Mathlib.Omega.{arith}
 use lib.ListN.{length}
 use Rattle.account.proofs.Answers.{room, open_space, open_done}
-use borrow.Author.Rules.{rules}
 use Rattle.account.proofs.open.Goals as goal
 
 pub returns-then-space_out : goal.returns-then-space_out

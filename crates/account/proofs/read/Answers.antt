@@ -1,6 +1,5 @@
 -- The judgement's refusal, or the costs that it finds, stored.
 use Rattle.account.proofs.Answers.{room_taken, read_refused, read_done}
-use borrow.Author.Rules.{rules}
 use Rattle.account.proofs.read.Goals as goal
 
 pub store_costs-requires : goal.store_costs-requires

@@ -1,5 +1,4 @@
 -- Each way through the code settles the tests of the definition in turn.
-use borrow.Author.Rules.{rules}
 use borrow.Author.Tests.{lt-ltb, le-ltb}
 use Rattle.account.proofs.space_out.Goals as goal
 

@@ -1,12 +1,6 @@
 -- The costs of the first i entries' targets are stored.
-use mathlib.Core.Logic.{⊎_elim}
 use Prim.Native.Nat.{◌-◌, ◌≤◌}
-use native.Mathlib.Nat.{div-add-mod'}
-use native.Mathlib.Omega.{arith}
-use borrow.Author.Rules.{rules}
-use lib.ListN.{length}
-use Rattle.account_parts.specs.Part.{entry_at}
-use Rattle.account.proofs.Storing.{StoredSoFar, stored_none, stored_beside, stored_next, stored_all}
+use Rattle.account.proofs.Storing.{StoredSoFar}
 use Rattle.account.proofs.store_costs.Given as goal
 
 abbrev pub invariant-loop-i : goal.invariant-loop-i
