@@ -1,7 +1,7 @@
 -- A station is put in right after a place p, where its rank belongs, and the lists stay linked.
 use mathlib.Core.Path.{◌≡◌, sym, ap, ◌∙◌, subst}
 use mathlib.Core.Logic.{◌⊎◌, inl, inr}
-use Prim.Native.Nat.{ℕ, suc, ◌+◌, ◌-◌, ◌*◌, ◌≤◌, ◌<◌}
+use Prim.Native.Nat.{ℕ, suc, ◌+◌, ◌*◌, ◌≤◌, ◌<◌}
 use native.Mathlib.Omega.{arith}
 use Rattle.calendar_cells.specs.Lists.{Live, list_of, rank_of, Back, Front, Lists}
 use Rattle.words.proofs.Cases.{eq_or}

@@ -1,6 +1,5 @@
 -- The header's words are written one after the other.
 use native.Mathlib.Omega.{arith}
-use borrow.Author.Rules.{rules}
 use Rattle.calendar_header.proofs.Leaves.{span_most}
 use Rattle.calendar.proofs.Opening.{ring_fits, begun}
 use Rattle.calendar.proofs.begin.Goals as goal

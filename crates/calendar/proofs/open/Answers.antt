@@ -1,7 +1,6 @@
 -- The arity is looked up in the table of shapes.
 use mathlib.Core.Path.{subst}
 use Prim.Native.Nat.{ℕ}
-use borrow.Author.Rules.{rules}
 use Rattle.refusal.proofs.Arities.{arity_none}
 use Rattle.calendar_shapes.specs.Rule.{EntryIs}
 use Rattle.calendar_header.specs.Promises.{OpensCalendar}

@@ -1,6 +1,5 @@
 -- Each refusal has its number, and an accepted buffer is cleared before its header is written.
 use native.Mathlib.Omega.{arith}
-use borrow.Author.Rules.{rules}
 use Rattle.calendar.proofs.Opening.{right_in, right_sizes, right_leaves, right_clears, open_narrow, open_wide, open_none, open_many, open_short, open_done}
 use Rattle.calendar.proofs.open_shape.Goals as goal
 

@@ -4,26 +4,25 @@ use mathlib.Core.Logic.{inl, inr}
 use native.Mathlib.Omega.{arith}
 use Rattle.calendar_shapes.proofs.Powers.{row_sizes}
 use Rattle.calendar_bits.proofs.Refreshes.{refresh_out, inside, lower_nothing, lower_one_at, lower_two_at}
-use borrow.Author.Rules.{rules}
 use Rattle.calendar_bits.proofs.lower_in.Goals as goal
 
 pub returns-then-leaves-list : goal.returns-then-leaves-list
 returns-then-leaves-list c = record {
-      lowered = refresh_out _ _ _ _ (inl (let e = c.leaves.ensures.0 in omega (arith, c.if-leaves-list.true)));
-      none = λ h. refl;
-    }
+  lowered = refresh_out _ _ _ _ (inl (let e = c.leaves.ensures.0 in omega (arith, c.if-leaves-list.true)));
+  none = λ h. refl;
+}
 
 pub returns-then-b-table_bytes : goal.returns-then-b-table_bytes
 returns-then-b-table_bytes c = record {
-      lowered = refresh_out _ _ _ _ (inr (let e = c.table_bytes.ensures.0 in omega (arith, c.if-b-table_bytes.true)));
-      none = λ h. refl;
-    }
+  lowered = refresh_out _ _ _ _ (inr (let e = c.table_bytes.ensures.0 in omega (arith, c.if-b-table_bytes.true)));
+  none = λ h. refl;
+}
 
 pub returns-then-link-ne0 : goal.returns-then-link-ne0
 returns-then-link-ne0 c = record {
-      lowered = lower_nothing _ _ _ (rw (← c.link.ensures) c.if-link-ne0.true);
-      none = λ h. refl;
-    }
+  lowered = lower_nothing _ _ _ (rw (← c.link.ensures) c.if-link-ne0.true);
+  none = λ h. refl;
+}
 
 pub returns-then-y-eq0 : goal.returns-then-y-eq0
 returns-then-y-eq0 c =

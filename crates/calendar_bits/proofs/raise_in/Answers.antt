@@ -4,20 +4,19 @@ use mathlib.Core.Logic.{inl, inr}
 use native.Mathlib.Omega.{arith}
 use Rattle.calendar_shapes.proofs.Powers.{row_sizes}
 use Rattle.calendar_bits.proofs.Refreshes.{refresh_out, inside, raise_at}
-use borrow.Author.Rules.{rules}
 use Rattle.calendar_bits.proofs.raise_in.Goals as goal
 
 pub returns-then-leaves-list : goal.returns-then-leaves-list
 returns-then-leaves-list c = record {
-      raised = refresh_out _ _ _ _ (inl (let e = c.leaves.ensures.0 in omega (arith, c.if-leaves-list.true)));
-      none = λ h. refl;
-    }
+  raised = refresh_out _ _ _ _ (inl (let e = c.leaves.ensures.0 in omega (arith, c.if-leaves-list.true)));
+  none = λ h. refl;
+}
 
 pub returns-then-b-table_bytes : goal.returns-then-b-table_bytes
 returns-then-b-table_bytes c = record {
-      raised = refresh_out _ _ _ _ (inr (let e = c.table_bytes.ensures.0 in omega (arith, c.if-b-table_bytes.true)));
-      none = λ h. refl;
-    }
+  raised = refresh_out _ _ _ _ (inr (let e = c.table_bytes.ensures.0 in omega (arith, c.if-b-table_bytes.true)));
+  none = λ h. refl;
+}
 
 pub returns : goal.returns
 returns c =

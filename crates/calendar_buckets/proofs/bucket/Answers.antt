@@ -2,7 +2,6 @@
 use mathlib.Core.Path.{ap, subst}
 use Prim.Native.Nat.{ℕ, ◌+◌, ◌*◌, ◌<◌, ◌≤◌}
 use native.Mathlib.Omega.{arith}
-use borrow.Author.Rules.{rules}
 use Rattle.calendar_buckets.proofs.Puts.{in_leaf, in_overflow}
 use Rattle.calendar_buckets.proofs.bucket.Goals as goal
 

@@ -1,10 +1,8 @@
 -- Each turn clears one byte more.
 use mathlib.Core.Path.{◌∙◌}
-use Prim.Native.Nat.{◌-◌, ◌≤◌, ◌<◌}
 use native.Mathlib.Omega.{arith}
 use Rattle.calendar_shapes.proofs.Powers.{row_sizes}
-use Rattle.calendar_buckets.proofs.Clears.{Wiped, wipe_start, wipe_on, wipe_most, wiped}
-use borrow.Author.Rules.{rules}
+use Rattle.calendar_buckets.proofs.Clears.{wipe_start, wipe_on, wipe_most, wiped}
 use Rattle.calendar_buckets.proofs.clear.Goals as goal
 
 pub loop-i-init : goal.loop-i-init

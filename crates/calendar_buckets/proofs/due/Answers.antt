@@ -3,7 +3,6 @@ use mathlib.Core.Path.{ap}
 use Prim.Native.Nat.{ℕ, ◌%◌}
 use native.Mathlib.Omega.{arith}
 use Rattle.calendar_cells.specs.Table.{due_of}
-use borrow.Author.Rules.{rules}
 use Rattle.calendar_buckets.proofs.due.Goals as goal
 
 pub returns : goal.returns

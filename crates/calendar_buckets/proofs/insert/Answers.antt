@@ -5,7 +5,6 @@ use native.Mathlib.Omega.{arith}
 use native.Mathlib.Numerals.{add-one}
 use Rattle.calendar_lists.specs.Promises.{Joined}
 use Rattle.calendar_buckets.proofs.Puts.{put_kept, put_in}
-use borrow.Author.Rules.{rules}
 use Rattle.calendar_buckets.proofs.insert.Goals as goal
 
 pub returns : goal.returns

@@ -8,36 +8,35 @@ use Rattle.calendar_cells.proofs.TableLaws.{too_short, by_row}
 use Rattle.calendar_buckets.specs.Promises.{Placed, bucket_for}
 use Rattle.calendar_buckets.proofs.Takes.{kept_same, kept_on}
 use Rattle.calendar_buckets.proofs.Puts.{put_after, put_nothing}
-use borrow.Author.Rules.{rules}
 use Rattle.calendar_buckets.proofs.put.Goals as goal
 
 pub returns-then-s-ge256 : goal.returns-then-s-ge256
 returns-then-s-ge256 c = record {
-      kept = kept_same _;
-      none = λ h. refl;
-      placed = λ a T l d m. absurd (omega arith);
-    }
+  kept = kept_same _;
+  none = λ h. refl;
+  placed = λ a T l d m. absurd (omega arith);
+}
 
 pub returns-then-due-eq0 : goal.returns-then-due-eq0
 returns-then-due-eq0 c = record {
-      kept = kept_same _;
-      none = λ h. refl;
-      placed = λ a T l d m. absurd (omega arith);
-    }
+  kept = kept_same _;
+  none = λ h. refl;
+  placed = λ a T l d m. absurd (omega arith);
+}
 
 pub returns-then-due-gt-LAST : goal.returns-then-due-gt-LAST
 returns-then-due-gt-LAST c = record {
-      kept = kept_same _;
-      none = λ h. refl;
-      placed = λ a T l d m. absurd (omega arith);
-    }
+  kept = kept_same _;
+  none = λ h. refl;
+  placed = λ a T l d m. absurd (omega arith);
+}
 
 pub returns-then-b-lt-BYTES : goal.returns-then-b-lt-BYTES
 returns-then-b-lt-BYTES c = record {
-      kept = kept_same _;
-      none = λ h. refl;
-      placed = λ a T l d m. absurd (too_short T c.if-b-lt-BYTES.true);
-    }
+  kept = kept_same _;
+  none = λ h. refl;
+  placed = λ a T l d m. absurd (too_short T c.if-b-lt-BYTES.true);
+}
 
 pub returns : goal.returns
 returns c =
@@ -53,10 +52,10 @@ returns c =
       kept = kept_on take.ensures.kept insert.ensures.kept;
       none = λ h. absurd (put_nothing _ _ _ if1.false if2.false if3.false if4.false h);
       placed = λ a T l d m.
-            let G = take.ensures.gone a T l in
-            let e = by_row a _ _ word.ensures G.changed.table in
-            put_after G
-            (subst (λ (k : ℕ). Placed k args.s args.due (bucket_for k args.leaf args.s) take.new.b insert.new.b) (sym e)
-            (subst (λ (k : ℕ). Placed (arity_in word.result) args.s args.due k take.new.b insert.new.b) bucket.ensures.0
-            (insert.ensures.placed (subst (λ (k : ℕ). Table k take.new.b) e G.changed.table) G.due_is)));
+          let G = take.ensures.gone a T l in
+          let e = by_row a _ _ word.ensures G.changed.table in
+          put_after G
+          (subst (λ (k : ℕ). Placed k args.s args.due (bucket_for k args.leaf args.s) take.new.b insert.new.b) (sym e)
+          (subst (λ (k : ℕ). Placed (arity_in word.result) args.s args.due k take.new.b insert.new.b) bucket.ensures.0
+          (insert.ensures.placed (subst (λ (k : ℕ). Table k take.new.b) e G.changed.table) G.due_is)));
     }

@@ -2,7 +2,6 @@
 use mathlib.Core.Path.{refl}
 use native.Mathlib.Omega.{arith}
 use Rattle.calendar_buckets.proofs.Clears.{right_most}
-use borrow.Author.Rules.{rules}
 use Rattle.calendar_buckets.proofs.table_end.Goals as goal
 
 pub overflow_mul-end : goal.overflow_mul-end

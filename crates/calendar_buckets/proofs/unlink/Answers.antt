@@ -5,7 +5,6 @@ use native.Mathlib.Numerals.{add-one}
 use Rattle.calendar_cells.specs.Cells.{back_at}
 use Rattle.calendar_cells.specs.Table.{bucket_of}
 use Rattle.calendar_buckets.proofs.Takes.{take_kept, taken_out}
-use borrow.Author.Rules.{rules}
 use Rattle.calendar_buckets.proofs.unlink.Goals as goal
 
 pub returns : goal.returns

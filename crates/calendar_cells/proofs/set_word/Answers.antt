@@ -1,6 +1,5 @@
 -- A cell is a number in the bytes.
 use Rattle.calendar_cells.specs.Cells.{put_word}
-use borrow.Author.Rules.{rules}
 use Rattle.calendar_cells.proofs.set_word.Goals as goal
 
 pub returns : goal.returns

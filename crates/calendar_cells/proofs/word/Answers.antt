@@ -1,6 +1,5 @@
 -- A cell is a number in the bytes.
 use Rattle.calendar_cells.specs.Cells.{word_at}
-use borrow.Author.Rules.{rules}
 use Rattle.calendar_cells.proofs.word.Goals as goal
 
 pub returns : goal.returns

@@ -1,6 +1,5 @@
 -- Each refusal has its number, and an accepted floor rises.
 use mathlib.Core.Path.{sym, ◌∙◌}
-use borrow.Author.Rules.{rules}
 use Rattle.calendar_floor.proofs.Floor.{none_before}
 use Rattle.calendar_floor.proofs.Advancing.{advance_11, advance_12, advance_15, advance_done}
 use Rattle.calendar_floor.proofs.advance.Goals as goal

@@ -1,6 +1,5 @@
 -- The least time decides.
 use mathlib.Core.Path.{subst}
-use borrow.Author.Rules.{rules}
 use Rattle.calendar_header.specs.Promises.{Names}
 use Rattle.calendar_floor.proofs.LeastBefore.{early_at, early_none}
 use Rattle.calendar_floor.proofs.early.Goals as goal

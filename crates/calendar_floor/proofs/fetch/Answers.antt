@@ -1,6 +1,5 @@
 -- The station stays where the ring does not cover its time, and else goes to its leaf.
 use native.Mathlib.Omega.{arith}
-use borrow.Author.Rules.{rules}
 use Rattle.calendar_floor.proofs.Fetching.{not_absent, fetch_floor, moved_none, moved_put}
 use Rattle.calendar_floor.proofs.fetch.Goals as goal
 

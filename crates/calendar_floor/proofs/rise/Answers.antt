@@ -1,5 +1,4 @@
 -- Below the end of the block only the floor's word is written.
-use borrow.Author.Rules.{rules}
 use Rattle.calendar_floor.proofs.Floor.{risen_within}
 use Rattle.calendar_floor.proofs.rise.Goals as goal
 

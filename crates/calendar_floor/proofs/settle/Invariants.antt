@@ -1,10 +1,8 @@
 -- Before each turn, the stations below from stand where they belong. The measure is what is left of the 256 stations.
 use mathlib.Core.Path.{◌≡◌}
 use Prim.Native.Nat.{ℕ, ◌≤◌, ◌-◌}
-use native.Mathlib.Omega.{arith}
 use lib.ListN.{length}
-use borrow.Author.Rules.{rules}
-use Rattle.calendar_floor.proofs.Fetching.{SettledTo, settle_start, settle_step, settle_none, settle_end}
+use Rattle.calendar_floor.proofs.Fetching.{SettledTo}
 use Rattle.calendar_floor.proofs.settle.Given as goal
 
 abbrev pub invariant-loop-from : goal.invariant-loop-from

@@ -2,7 +2,6 @@
 use Prim.Native.Nat.{◌*◌}
 use native.Mathlib.Omega.{arith}
 use native.Mathlib.Nat.{div-le_self}
-use borrow.Author.Rules.{rules}
 use Rattle.calendar_header.proofs.Leaves.{span_most}
 use Rattle.calendar_floor.proofs.Floor.{span_pos, start_fits, end_fits, limit_fits, risen_turned}
 use Rattle.calendar_floor.proofs.turn.Goals as goal

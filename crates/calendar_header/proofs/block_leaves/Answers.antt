@@ -1,7 +1,6 @@
 -- The row of the shape says how many.
 use mathlib.Core.Path.{ap, ◌∙◌}
 use Prim.Native.Nat.{ℕ, ◌*◌}
-use borrow.Author.Rules.{rules}
 use Rattle.calendar_shapes.specs.Rule.{arity_in}
 use Rattle.calendar_cells.specs.Table.{arity_of}
 use Rattle.calendar_header.proofs.Leaves.{leaves_many}

@@ -1,7 +1,6 @@
 -- The leaf is computed from the start of the floor's block; after the ring it is the number of all leaves.
 use mathlib.Core.Path.{refl}
 use native.Mathlib.Omega.{arith}
-use borrow.Author.Rules.{rules}
 use Rattle.calendar_header.proofs.Leaves.{slot_most, ring_most, start_before, leaf_after, leaf_read}
 use Rattle.calendar_header.proofs.leaf.Goals as goal
 

@@ -1,5 +1,4 @@
 -- A calendar has at least 8192 bytes, and at most 256 stations.
-use borrow.Author.Rules.{rules}
 use native.Mathlib.Omega.{arith}
 use Rattle.calendar_cells.proofs.TableLaws.{table_sizes}
 use Rattle.calendar_header.proofs.stations.Goals as goal

@@ -1,18 +1,15 @@
 -- Every place on the way ranks below k; the rank rises at each turn, so the walk ends.
-use mathlib.Core.Path.{◌≡◌, refl}
-use Prim.Native.Nat.{◌-◌, ◌^◌, ◌<◌}
-use Rattle.calendar_cells.specs.Cells.{link_at}
+use mathlib.Core.Path.{refl}
 use native.Mathlib.Omega.{arith}
-use borrow.Author.Rules.{rules}
-use Rattle.calendar_lists.proofs.Finds.{Way, way_start, way_end, way_out, way_bad, way_here, way_on}
+use Rattle.calendar_lists.proofs.Finds.{way_start, way_end, way_out, way_bad, way_here, way_on}
 use Rattle.calendar_lists.proofs.find.Goals as goal
 
 pub returns-then-list-ge65792 : goal.returns-then-list-ge65792
 returns-then-list-ge65792 c = record {
-      within = omega arith;
-      none = λ h. refl;
-      place = λ a l. absurd (omega arith);
-    }
+  within = omega arith;
+  none = λ h. refl;
+  place = λ a l. absurd (omega arith);
+}
 
 pub overflow_add-p : goal.overflow_add-p
 overflow_add-p c = omega arith

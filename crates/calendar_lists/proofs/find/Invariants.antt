@@ -1,10 +1,8 @@
 -- Every place on the way ranks below k; the rank rises at each turn, so the walk ends.
-use mathlib.Core.Path.{◌≡◌, refl}
+use mathlib.Core.Path.{◌≡◌}
 use Prim.Native.Nat.{◌-◌, ◌^◌, ◌<◌}
 use Rattle.calendar_cells.specs.Cells.{link_at}
-use native.Mathlib.Omega.{arith}
-use borrow.Author.Rules.{rules}
-use Rattle.calendar_lists.proofs.Finds.{Way, way_start, way_end, way_out, way_bad, way_here, way_on}
+use Rattle.calendar_lists.proofs.Finds.{Way}
 use Rattle.calendar_lists.proofs.find.Given as goal
 
 abbrev pub invariant-loop-n : goal.invariant-loop-n

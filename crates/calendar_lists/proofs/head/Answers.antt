@@ -3,15 +3,14 @@ use mathlib.Core.Path.{refl}
 use native.Mathlib.Omega.{arith}
 use Rattle.calendar_cells.proofs.Heads.{head_within}
 use Rattle.calendar_lists.proofs.HeadLaws.{head_of}
-use borrow.Author.Rules.{rules}
 use Rattle.calendar_lists.proofs.head.Goals as goal
 
 pub returns-then-list-ge65792 : goal.returns-then-list-ge65792
 returns-then-list-ge65792 c = record {
-      within = omega arith;
-      none = λ h. refl;
-      first = λ a l. absurd (omega arith);
-    }
+  within = omega arith;
+  none = λ h. refl;
+  first = λ a l. absurd (omega arith);
+}
 
 pub returns-then-h-gt256 : goal.returns-then-h-gt256
 returns-then-h-gt256 c =

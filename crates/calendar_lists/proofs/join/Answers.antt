@@ -2,20 +2,19 @@
 use mathlib.Core.Path.{refl}
 use mathlib.Core.Logic.{inl, inr}
 use Rattle.calendar_lists.proofs.Joins.{join_in, join_nothing, join_two}
-use borrow.Author.Rules.{rules}
 use Rattle.calendar_lists.proofs.join.Goals as goal
 
 pub returns-then-p-ge66048 : goal.returns-then-p-ge66048
 returns-then-p-ge66048 c = record {
-      joined = join_nothing _ _ _ (inl c.if-p-ge66048.true);
-      none = λ h. refl;
-    }
+  joined = join_nothing _ _ _ (inl c.if-p-ge66048.true);
+  none = λ h. refl;
+}
 
 pub returns-then-n-gt256 : goal.returns-then-n-gt256
 returns-then-n-gt256 c = record {
-      joined = join_nothing _ _ _ (inr c.if-n-gt256.true);
-      none = λ h. refl;
-    }
+  joined = join_nothing _ _ _ (inr c.if-n-gt256.true);
+  none = λ h. refl;
+}
 
 pub returns : goal.returns
 returns c =

@@ -3,7 +3,6 @@ use mathlib.Core.Path.{sym, ap, ◌∙◌}
 use Prim.Native.Nat.{ℕ, ◌+◌, ◌*◌, ◌%◌}
 use Rattle.calendar_cells.proofs.Places.{rank_station}
 use Rattle.calendar_cells.specs.Table.{due_of}
-use borrow.Author.Rules.{rules}
 use Rattle.calendar_lists.proofs.rank.Goals as goal
 
 pub returns : goal.returns

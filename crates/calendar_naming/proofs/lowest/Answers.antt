@@ -1,6 +1,5 @@
 -- The first station in the leaves, or where all leaves are empty the nearest of the overflow table.
 use Prim.Native.Nat.{◌%◌}
-use borrow.Author.Rules.{rules}
 use Rattle.calendar_naming.proofs.Order.{first_leaves, first_over}
 use Rattle.calendar_naming.proofs.lowest.Goals as goal
 

@@ -1,5 +1,4 @@
 -- The first station is the one of least time.
-use borrow.Author.Rules.{rules}
 use Rattle.calendar_naming.proofs.Naming.{names_idle, names_lost, names_at}
 use Rattle.calendar_naming.proofs.named.Goals as goal
 

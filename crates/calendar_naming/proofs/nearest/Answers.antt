@@ -1,10 +1,5 @@
 -- Before each turn, best is the nearest of the stations below from that wait. The measure is what is left of the 256 stations.
-use Prim.Native.Nat.{◌≤◌, ◌-◌}
 use native.Mathlib.Omega.{arith}
-use borrow.Author.Rules.{rules}
-use Rattle.calendar_cells.specs.Table.{arity_of}
-use Rattle.calendar_header.specs.Bytes.{Sound}
-use Rattle.calendar_naming.specs.Steps.{Nearest}
 use Rattle.calendar_naming.proofs.Overflow.{nearer_within, nearest_start, nearest_none, nearest_step, nearest_end}
 use Rattle.calendar_naming.proofs.nearest.Goals as goal
 
@@ -40,7 +35,7 @@ loop-from-preserved c =
 
 pub returns : goal.returns
 returns c = record {
-      within = omega arith;
-      nearest = λ S. nearest_end _ c.args.b.now c.loop-from.from c.loop-from.best
+  within = omega arith;
+  nearest = λ S. nearest_end _ c.args.b.now c.loop-from.from c.loop-from.best
       c.loop-from-test.false (c.loop-from.invariant.2 S);
-    }
+}

@@ -1,7 +1,6 @@
 -- The station is put into the bucket of its time.
 use mathlib.Core.Path.{refl}
 use native.Mathlib.Omega.{arith}
-use borrow.Author.Rules.{rules}
 use Rattle.calendar_registering.proofs.Entering.{entered_already, entered_placed}
 use Rattle.calendar_registering.proofs.enter.Goals as goal
 

@@ -1,7 +1,6 @@
 -- The least station is taken.
 use mathlib.Core.Path.{subst}
 use native.Mathlib.Omega.{arith}
-use borrow.Author.Rules.{rules}
 use Rattle.calendar_header.specs.Promises.{Names}
 use Rattle.calendar_registering.proofs.Extracting.{extract_at, extract_none}
 use Rattle.calendar_registering.proofs.extract.Goals as goal

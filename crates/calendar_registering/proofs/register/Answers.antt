@@ -1,5 +1,4 @@
 -- Each refusal has its number, and an accepted time is entered.
-use borrow.Author.Rules.{rules}
 use Rattle.calendar_header.proofs.Obeying.{out_of, one_of}
 use Rattle.calendar_registering.proofs.Registering.{register_9, register_11, register_12, register_done}
 use Rattle.calendar_registering.proofs.register.Goals as goal

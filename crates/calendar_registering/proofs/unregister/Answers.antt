@@ -1,6 +1,5 @@
 -- A station beyond the calendar's is refused, any other is taken.
 use native.Mathlib.Omega.{arith}
-use borrow.Author.Rules.{rules}
 use Rattle.calendar_header.proofs.Obeying.{out_of, one_of}
 use Rattle.calendar_registering.proofs.Registering.{unregister_9, unregister_done}
 use Rattle.calendar_registering.proofs.unregister.Goals as goal

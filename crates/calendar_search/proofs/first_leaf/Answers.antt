@@ -1,10 +1,6 @@
 -- Each root that is 0 passes a block by; the first that is not leads to the first leaf.
-use Prim.Native.Nat.{◌-◌, ◌%◌}
 use native.Mathlib.Omega.{arith}
-use Rattle.calendar_shapes.specs.Rule.{arity_in}
-use Rattle.calendar_cells.specs.Table.{Table}
-use Rattle.calendar_search.proofs.Firsts.{Clear, clear_start, clear_end, clear_on, stop_at}
-use borrow.Author.Rules.{rules}
+use Rattle.calendar_search.proofs.Firsts.{clear_start, clear_end, clear_on, stop_at}
 use Rattle.calendar_search.proofs.first_leaf.Goals as goal
 
 pub loop-i-init : goal.loop-i-init

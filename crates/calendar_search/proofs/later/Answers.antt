@@ -1,7 +1,6 @@
 -- The row of the bytes has the arity of its literal.
 use native.Mathlib.Omega.{arith}
 use Rattle.calendar_search.proofs.Laters.{later_short, later_row}
-use borrow.Author.Rules.{rules}
 use Rattle.calendar_search.proofs.later.Goals as goal
 
 pub returns-in-0 : goal.returns-in-0

@@ -1,11 +1,7 @@
 -- Each node without a bit from s on passes its stations by.
 use mathlib.Core.Path.{refl}
-use Prim.Native.Nat.{◌-◌, ◌≤◌}
 use native.Mathlib.Omega.{arith}
-use Rattle.calendar_shapes.specs.Rule.{arity_in}
-use Rattle.calendar_cells.specs.Table.{Table}
-use Rattle.calendar_search.proofs.Laters.{NoneTo, none_start, none_end, from_least, from_next, found_at, none_at}
-use borrow.Author.Rules.{rules}
+use Rattle.calendar_search.proofs.Laters.{none_start, none_end, from_least, from_next, found_at, none_at}
 use Rattle.calendar_search.proofs.later_in.Goals as goal
 
 pub returns-then-b-table_bytes : goal.returns-then-b-table_bytes
@@ -54,8 +50,8 @@ returns-then-c-a c =
       from = λ l. omega (arith, loop.invariant.0, least);
       short = λ h. absurd (omega (arith, if1.false, bytes.ensures.0));
       first = λ T.
-            found_at _ _ T _ _ _ _ _ _ _ _ _ arity.ensures.0 above.ensures.0 child-of.ensures.0 first.0
-            nodes-at.ensures.0 word.ensures (loop.invariant.1 T) first-from.ensures.first if2.true;
+          found_at _ _ T _ _ _ _ _ _ _ _ _ arity.ensures.0 above.ensures.0 child-of.ensures.0 first.0
+          nodes-at.ensures.0 word.ensures (loop.invariant.1 T) first-from.ensures.first if2.true;
     }
 
 pub overflow_add-s : goal.overflow_add-s

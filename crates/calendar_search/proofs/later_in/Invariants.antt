@@ -1,11 +1,8 @@
 -- Each node without a bit from s on passes its stations by.
-use mathlib.Core.Path.{refl}
 use Prim.Native.Nat.{◌-◌, ◌≤◌}
-use native.Mathlib.Omega.{arith}
 use Rattle.calendar_shapes.specs.Rule.{arity_in}
 use Rattle.calendar_cells.specs.Table.{Table}
-use Rattle.calendar_search.proofs.Laters.{NoneTo, none_start, none_end, from_least, from_next, found_at, none_at}
-use borrow.Author.Rules.{rules}
+use Rattle.calendar_search.proofs.Laters.{NoneTo}
 use Rattle.calendar_search.proofs.later_in.Given as goal
 
 abbrev pub invariant-loop-s : goal.invariant-loop-s

@@ -1,7 +1,6 @@
 -- The first child of the root word, and the first child of that node's word.
 use native.Mathlib.Omega.{arith}
 use Rattle.calendar_search.proofs.Firsts.{leaf_at}
-use borrow.Author.Rules.{rules}
 use Rattle.calendar_search.proofs.leaf_in.Goals as goal
 
 pub overflow_add-j : goal.overflow_add-j

@@ -1,7 +1,6 @@
 -- A literal row has the arity of each row that is one with it modulo 4.
 use native.Mathlib.Omega.{arith}
 use Rattle.calendar_search.proofs.Firsts.{by_rows}
-use borrow.Author.Rules.{rules}
 use Rattle.calendar_search.proofs.leaf_under.Goals as goal
 
 pub returns-in-0 : goal.returns-in-0
