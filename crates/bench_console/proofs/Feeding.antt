@@ -1,6 +1,6 @@
 -- What a byte, and what a list of bytes, makes of the console.
 use mathlib.Core.Path.{◌≡◌, refl, sym, ap, subst, ◌∙◌}
-use mathlib.Core.Logic.{inl, inr}
+use mathlib.Core.Logic.{◌⊎◌, inl, inr}
 use mathlib.Core.List.{List, [], ◌∷◌, ◌++◌, append_assoc, append-nil}
 use Prim.Native.Nat.{ℕ, ◌+◌, ◌≤◌, ◌<◌}
 use native.Mathlib.Omega.{arith}
@@ -9,8 +9,8 @@ use lib.ListN.{length, get_or, set, take, length-append, length-set, length-take
 use lib.Seq.{take_all, take-nil, take-append-le, take-suc-set}
 use Rattle.bench_command.proofs.Prefixes.{next_byte}
 use Rattle.bench_answers.specs.Promises.{Replied}
-use Rattle.bench_console.specs.Input.{Consumed, unfed, inside, ends, whole, last}
-use Rattle.bench_console.specs.Steps.{Printed, Unended, Console, More, Last, ReadOn, Within, AnswersAll}
+use Rattle.bench_console.specs.Input.{Consumed, Ended, unfed, inside, ends, whole, last}
+use Rattle.bench_console.specs.Steps.{Printed, Unended, Console, Stopped, More, Last, IsReadOn, Within, AnswersAll}
 use Rattle.bench_console.specs.declared.Read.{Read}
 use Rattle.bench_console.specs.declared.Read.TheVariants.{Some, End}
 use Rattle.bench_console.proofs.Lengths.{by_front}
@@ -80,6 +80,20 @@ module _ {xs input line : List ℕ} {len : ℕ} {ys : List ℕ} {b : ℕ} (n : b
     unended = unended_over b C.unended l;
   }
 
+-- the run ends after that line
+pub stops : {xs line : List ℕ} {len : ℕ} {ys : List ℕ} (input read : List ℕ) → Console xs (input ++ read) line len ys → Stopped xs input ys
+stops input read C = record { read = read; printed = C.printed; rest = C.rest; answers = inr C.fed }
+
+-- .. as it does after more input
+pub stops_later : {xs ys : List ℕ} (input us : List ℕ) → Stopped xs (input ++ us) ys → Stopped xs input ys
+stops_later {xs} {ys} input us S = record {
+  read = us ++ S.read;
+  printed = S.printed;
+  rest = S.rest;
+  answers =
+      subst (λ (l : List ℕ). Ended xs l ys S.printed ⊎ Consumed xs l S.rest ys S.printed) (append_assoc input us S.read) S.answers;
+}
+
 pub room_after : (line : List ℕ) (len b : ℕ) → len < length line → len + 1 ≤ length (set line len b)
 room_after line len b l = omega (arith, l, length-set line len b)
 
@@ -127,26 +141,41 @@ pub ends_last : {xs input line : List ℕ} {len : ℕ} {ys zs : List ℕ} → 12
 ends_last {xs} {input} {line} {len} {ys} {zs} room h P C =
     ends_rest C.rest (omega (arith, h, C.unended.count, length-take (length line) C.rest)) C.fed (answered room C.unended P)
 
+-- .. and the run with it
+pub last_stops : {xs input ys : List ℕ} → Last xs input ys → Stopped xs input ys
+last_stops {xs} {input} {ys} L = record {
+  read = [];
+  printed = L.printed;
+  rest = [];
+  answers = inl (subst (λ (l : List ℕ). Ended xs l ys L.printed) (sym (append-nil input)) L.ended);
+}
+
 -- ---- one read after the other
 
 pub nothing_read : (xs line : List ℕ) → More xs [] line 0 xs
 nothing_read xs line = record { read = []; console = record { rest = []; printed = []; fed = unfed; unended = unended_none line } }
 
 module _ {xs line : List ℕ} {len : ℕ} {ys : List ℕ} (line' zs : List ℕ) (r : Read) (M : More xs [] line len ys)
-    (on : (us input : List ℕ) → Console us input line len ys → ReadOn us input line' r zs)
+    (on : (us input : List ℕ) → Console us input line len ys → IsReadOn us input line' r zs)
   where
-    to : ReadOn xs M.read line' r zs
+    to : IsReadOn xs M.read line' r zs
     to = on xs M.read M.console
 
     pub read_more : (n : ℕ) → r ≡ Some n → More xs [] line' n zs
     read_more n e =
-        let m : More xs M.read line' n zs = subst (λ (s : Read). ReadOn xs M.read line' s zs) e to in
+        let m : More xs M.read line' n zs = subst (λ (s : Read). IsReadOn xs M.read line' s zs) e to in
         record { read = M.read ++ m.read; console = m.console }
 
     pub read_to_end : r ≡ End → AnswersAll xs zs
     read_to_end e =
-        let l : Last xs M.read zs = subst (λ (s : Read). ReadOn xs M.read line' s zs) e to in
+        let l : Last xs M.read zs = subst (λ (s : Read). IsReadOn xs M.read line' s zs) e to in
         record { input = M.read; printed = l.printed; rest = []; answers = inl l.ended }
+
+pub stopped : {xs line : List ℕ} {len : ℕ} {ys zs : List ℕ} (M : More xs [] line len ys)
+    → ((us input : List ℕ) → Console us input line len ys → Stopped us input zs) → AnswersAll xs zs
+stopped {xs} M on =
+    let s : Stopped xs M.read _ = on xs M.read M.console in
+    record { input = M.read ++ s.read; printed = s.printed; rest = s.rest; answers = s.answers }
 
 pub within_some : (r : Read) (line : List ℕ) (n : ℕ) → r ≡ Some n → Within r line → n ≤ length line
 within_some r line n e w = subst (λ (s : Read). Within s line) e w

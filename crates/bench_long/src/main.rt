@@ -2,6 +2,8 @@
 
 #![tactic(auto)]
 
-fn main() {
-    bench_console::serve(b"plan.bin");
+use std::io;
+
+fn main(rt: HostRuntime) -> io::Result<()> {
+    bench_console::serve(&rt, b"plan.bin")
 }

@@ -3,7 +3,7 @@
 
 #![tactic(auto)]
 
-use libc::STDOUT_FILENO;
+use std::io;
 
 // The draw after n draws from x.
 fn after(n: u32, x: u32) -> u32 {
@@ -16,63 +16,63 @@ fn after(n: u32, x: u32) -> u32 {
     d
 }
 
-fn line(d: u32) {
-    io::print_decimal(STDOUT_FILENO, d as u64);
-    io::write_all(STDOUT_FILENO, b"\n");
+fn line(rt: &impl Print, d: u32) -> io::Result<()> {
+    rt.print(d as u64)?;
+    rt.write_all(b"\n")
 }
 
 // A number, and the space after it.
-fn column(n: u64) {
-    io::print_decimal(STDOUT_FILENO, n);
-    io::write_all(STDOUT_FILENO, b" ");
+fn column(rt: &impl Print, n: u64) -> io::Result<()> {
+    rt.print(n)?;
+    rt.write_all(b" ")
 }
 
 // The column of a less b, with its sign.
-fn difference(a: u64, b: u64) {
+fn difference(rt: &impl Print, a: u64, b: u64) -> io::Result<()> {
     if a < b {
-        io::write_all(STDOUT_FILENO, b"-");
-        column(b - a);
+        rt.write_all(b"-")?;
+        column(rt, b - a)
     } else {
-        column(a - b);
+        column(rt, a - b)
     }
 }
 
 // A row by Schrage's cases, as on a pocket calculator: the seed, its quotient and remainder by 127773, both products, their
 // difference, and the draw that the generator makes.
-fn worked(seed: u32) {
+fn worked(rt: &impl Print, seed: u32) -> io::Result<()> {
     let quotient = (seed / 127773) as u64;
     let remainder = (seed % 127773) as u64;
     let low = 16807 * remainder;
     let high = 2836 * quotient;
-    column(seed as u64);
-    column(quotient);
-    column(remainder);
-    column(low);
-    column(high);
-    difference(low, high);
-    line(generator::drawn(seed));
+    column(rt, seed as u64)?;
+    column(rt, quotient)?;
+    column(rt, remainder)?;
+    column(rt, low)?;
+    column(rt, high)?;
+    difference(rt, low, high)?;
+    line(rt, generator::drawn(seed))
 }
 
 // A row by the formula: the number and the draw.
-fn other(x: u32) {
-    column(x as u64);
-    line(generator::drawn(x));
+fn other(rt: &impl Print, x: u32) -> io::Result<()> {
+    column(rt, x as u64)?;
+    line(rt, generator::drawn(x))
 }
 
-fn main() {
-    line(after(1, 1));
-    line(after(2, 1));
-    line(after(10000, 1));
-    worked(1);
-    worked(16807);
-    worked(127772);
-    worked(127773);
-    worked(739806647);
-    worked(1407677000);
-    worked(2147480811);
-    worked(2147483646);
-    other(0);
-    other(2147483647);
-    other(2147483648);
-    other(4294967295);
+fn main(rt: HostRuntime) -> io::Result<()> {
+    line(&rt, after(1, 1))?;
+    line(&rt, after(2, 1))?;
+    line(&rt, after(10000, 1))?;
+    worked(&rt, 1)?;
+    worked(&rt, 16807)?;
+    worked(&rt, 127772)?;
+    worked(&rt, 127773)?;
+    worked(&rt, 739806647)?;
+    worked(&rt, 1407677000)?;
+    worked(&rt, 2147480811)?;
+    worked(&rt, 2147483646)?;
+    other(&rt, 0)?;
+    other(&rt, 2147483647)?;
+    other(&rt, 2147483648)?;
+    other(&rt, 4294967295)
 }

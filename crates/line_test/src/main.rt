@@ -5,8 +5,8 @@
 
 ghost use Rattle.std.specs.Prelude.{◌<◌};
 
-use libc::STDOUT_FILENO;
 use line::{Config, Event, Matter, Ran, Sending, State};
+use std::io;
 
 // Events that wait: the first count of them, in any order.
 #[derive(Clone, Copy)]
@@ -89,34 +89,34 @@ fn without(w: Waiting, at: usize) -> Waiting {
     next
 }
 
-fn number(n: u64) {
-    io::print_decimal(STDOUT_FILENO, n);
-    io::write_all(STDOUT_FILENO, b" ");
+fn number(rt: &impl Print, n: u64) -> io::Result<()> {
+    rt.print(n)?;
+    rt.write_all(b" ")
 }
 
-fn last(n: u64) {
-    io::print_decimal(STDOUT_FILENO, n);
-    io::write_all(STDOUT_FILENO, b"\n");
+fn last(rt: &impl Print, n: u64) -> io::Result<()> {
+    rt.print(n)?;
+    rt.write_all(b"\n")
 }
 
-fn print(e: Event) {
+fn print(rt: &impl Print, e: Event) -> io::Result<()> {
     let m = e.matter;
-    number(e.time);
-    number(e.target as u64);
-    number(line::kind_of(m) as u64);
-    number(e.source as u64);
-    number(e.number as u64);
-    last(line::value_of(m) as u64);
+    number(rt, e.time)?;
+    number(rt, e.target as u64)?;
+    number(rt, line::kind_of(m) as u64)?;
+    number(rt, e.source as u64)?;
+    number(rt, e.number as u64)?;
+    last(rt, line::value_of(m) as u64)
 }
 
-fn print_state(s: State) {
-    number(s.draw as u64);
-    number(s.level as u64);
-    number(s.heard as u64);
-    number(s.lost as u64);
-    number(s.sent as u64);
-    number(s.last);
-    last(s.reached as u64);
+fn print_state(rt: &impl Print, s: State) -> io::Result<()> {
+    number(rt, s.draw as u64)?;
+    number(rt, s.level as u64)?;
+    number(rt, s.heard as u64)?;
+    number(rt, s.lost as u64)?;
+    number(rt, s.sent as u64)?;
+    number(rt, s.last)?;
+    last(rt, s.reached as u64)
 }
 
 #[derive(Clone, Copy)]
@@ -155,41 +155,41 @@ fn start() -> Machine {
 }
 
 // The least event before 1001 is run; where there is none, nothing is done.
-fn step(m: Machine) -> Machine {
+fn step(rt: &impl Print, m: Machine) -> io::Result<Machine> {
     let waiting = m.waiting;
     let at = least(waiting);
     let e = waiting.events[at];
     let target = e.target as usize;
     if 1001 <= e.time {
-        return m;
+        return Ok(m);
     }
     if 2 <= target {
-        return m;
+        return Ok(m);
     }
     let mut states = m.states;
     let Ran::Done(effect) = line_running::run_event(config(), states[target], e) else {
-        return m;
+        return Ok(m);
     };
-    print(e);
+    print(rt, e)?;
     let after = effect.state;
     let first = effect.first;
     let second = effect.second;
     states[target] = after;
     let next = with_send(with_send(without(waiting, at), first), second);
-    Machine {
+    Ok(Machine {
         states,
         waiting: next,
-    }
+    })
 }
 
-fn main() {
+fn main(rt: HostRuntime) -> io::Result<()> {
     let mut m = start();
     let mut steps: usize = 0;
     while steps < 10 {
-        m = step(m);
+        m = step(&rt, m)?;
         steps += 1;
     }
     let states = m.states;
-    print_state(states[0]);
-    print_state(states[1]);
+    print_state(&rt, states[0])?;
+    print_state(&rt, states[1])
 }

@@ -2,10 +2,10 @@
 
 #![tactic(auto)]
 
-use libc::STDOUT_FILENO;
 use line::Config;
 use plan::ReadAnswer;
 use refusal::Refusal;
+use std::io;
 
 // ---- a plan is laid out
 
@@ -82,154 +82,154 @@ fn letters(out: &mut [u8], at: usize, n: u8) {
 
 // ---- what is written
 
-fn station(k: u16) {
-    io::write_all(STDOUT_FILENO, b" ");
-    io::print_decimal(STDOUT_FILENO, k as u64);
+fn station(rt: &impl Print, k: u16) -> io::Result<()> {
+    rt.write_all(b" ")?;
+    rt.print(k as u64)
 }
 
-fn refused(r: Refusal) {
-    io::write_all(STDOUT_FILENO, b"no ");
-    io::print_decimal(STDOUT_FILENO, refusal::number(r));
+fn refused(rt: &impl Print, r: Refusal) -> io::Result<()> {
+    rt.write_all(b"no ")?;
+    rt.print(refusal::number(r))?;
     match r {
-        Refusal::Pair(k) => station(k),
-        Refusal::Field(k) => station(k),
-        Refusal::Name(k) => station(k),
-        _ => {}
+        Refusal::Pair(k) => station(rt, k),
+        Refusal::Field(k) => station(rt, k),
+        Refusal::Name(k) => station(rt, k),
+        _ => Ok(())
     }
 }
 
-fn tell(a: ReadAnswer) {
+fn tell(rt: &impl Print, a: ReadAnswer) -> io::Result<()> {
     match a {
         ReadAnswer::Stations(n) => {
-            io::print_decimal(STDOUT_FILENO, n as u64);
+            rt.print(n as u64)?;
         }
-        ReadAnswer::Refused(r) => refused(r),
+        ReadAnswer::Refused(r) => refused(rt, r)?,
     }
-    io::write_all(STDOUT_FILENO, b"\n");
+    rt.write_all(b"\n")
 }
 
 // What judging the first len bytes says.
-fn say(b: &[u8], len: usize) {
+fn say(rt: &impl Print, b: &[u8], len: usize) -> io::Result<()> {
     if b.len() < len {
-        return;
+        return Ok(());
     }
-    tell(plan::judge(&b[..len]));
+    tell(rt, plan::judge(&b[..len]))
 }
 
 // ---- the plans. Two stations with no names have their pairs at 2 and 10, their records at 18 and 44, and 70 bytes.
 
 // A right plan of two stations, with one byte changed.
-fn changed(i: usize, v: u8) {
+fn changed(rt: &impl Print, i: usize, v: u8) -> io::Result<()> {
     let mut b = [0u8; 70];
     lay(&mut b, 2, 0);
     byte(&mut b, 0, i, v);
-    say(&b, 70);
+    say(rt, &b, 70)
 }
 
 // .. and the same with a number of station 1 changed.
-fn numbered(i: u8, v: u32) {
+fn numbered(rt: &impl Print, i: u8, v: u32) -> io::Result<()> {
     let mut b = [0u8; 70];
     lay(&mut b, 2, 0);
     four(&mut b, 44, i, v);
-    say(&b, 70);
+    say(rt, &b, 70)
 }
 
 // The first len bytes of a right plan of two stations, with a byte after it.
-fn cut(len: usize) {
+fn cut(rt: &impl Print, len: usize) -> io::Result<()> {
     let mut b = [0u8; 71];
     lay(&mut b, 2, 0);
-    say(&b, len);
+    say(rt, &b, len)
 }
 
 // One station whose name has 16 bytes, one of them changed.
-fn named(v: u8) {
+fn named(rt: &impl Print, v: u8) -> io::Result<()> {
     let mut b = [0u8; 52];
     lay(&mut b, 1, 16);
     byte(&mut b, 10, 41, v);
-    say(&b, 52);
+    say(rt, &b, 52)
 }
 
-fn accepted() {
-    cut(70);
+fn accepted(rt: &impl Print) -> io::Result<()> {
+    cut(rt, 70)?;
     let mut one = [0u8; 36];
     lay(&mut one, 1, 0);
-    say(&one, 36);
+    say(rt, &one, 36)?;
     let mut most = [0u8; 12802];
     lay(&mut most, 256, 16);
-    say(&most, 12802);
+    say(rt, &most, 12802)
 }
 
-fn shapes() {
-    cut(0);
-    cut(1);
-    changed(0, 0);
+fn shapes(rt: &impl Print) -> io::Result<()> {
+    cut(rt, 0)?;
+    cut(rt, 1)?;
+    changed(rt, 0, 0)?;
     let mut b = [0u8; 12900];
     lay(&mut b, 257, 16);
-    say(&b, 12852);
-    cut(17);
+    say(rt, &b, 12852)?;
+    cut(rt, 17)
 }
 
-fn pairs() {
-    changed(2, 19);
-    changed(10, 43);
-    changed(5, 255);
-    changed(14, 25);
-    changed(6, 43);
-    cut(69);
+fn pairs(rt: &impl Print) -> io::Result<()> {
+    changed(rt, 2, 19)?;
+    changed(rt, 10, 43)?;
+    changed(rt, 5, 255)?;
+    changed(rt, 14, 25)?;
+    changed(rt, 6, 43)?;
+    cut(rt, 69)
 }
 
-fn fields() {
-    changed(18, 1);
-    changed(44, 1);
-    changed(44, 2);
-    numbered(2, 0);
-    numbered(6, 0);
-    numbered(10, 0);
-    numbered(14, 0);
-    numbered(18, 2147483646);
-    numbered(18, 2147483647);
-    numbered(22, 0);
-    numbered(22, 2147483646);
-    numbered(22, 2147483647);
+fn fields(rt: &impl Print) -> io::Result<()> {
+    changed(rt, 18, 1)?;
+    changed(rt, 44, 1)?;
+    changed(rt, 44, 2)?;
+    numbered(rt, 2, 0)?;
+    numbered(rt, 6, 0)?;
+    numbered(rt, 10, 0)?;
+    numbered(rt, 14, 0)?;
+    numbered(rt, 18, 2147483646)?;
+    numbered(rt, 18, 2147483647)?;
+    numbered(rt, 22, 0)?;
+    numbered(rt, 22, 2147483646)?;
+    numbered(rt, 22, 2147483647)
 }
 
-fn names() {
-    named(b'a');
-    named(0x20);
-    named(0x21);
-    named(0x7e);
-    named(0x7f);
+fn names(rt: &impl Print) -> io::Result<()> {
+    named(rt, b'a')?;
+    named(rt, 0x20)?;
+    named(rt, 0x21)?;
+    named(rt, 0x7e)?;
+    named(rt, 0x7f)
 }
 
 // Two faults at once: 2 and 3; 4 at station 1 and 5 at station 0, whose name has one byte.
-fn order() {
+fn order(rt: &impl Print) -> io::Result<()> {
     let mut b = [0u8; 73];
     lay(&mut b, 2, 0);
     byte(&mut b, 14, 0, 25);
-    say(&b, 71);
+    say(rt, &b, 71)?;
     lay(&mut b, 2, 1);
     byte(&mut b, 44, 0, 0x20);
-    say(&b, 72);
+    say(rt, &b, 72)?;
     four(&mut b, 45, 22, 0);
-    say(&b, 72);
-    say(&b, 73);
+    say(rt, &b, 72)?;
+    say(rt, &b, 73)
 }
 
 // Two stations, for a list of so many records.
-fn room(n: usize) {
+fn room(rt: &impl Print, n: usize) -> io::Result<()> {
     let mut b = [0u8; 70];
     lay(&mut b, 2, 0);
-    tell(plan::judge_in(&b, n));
+    tell(rt, plan::judge_in(&b, n))
 }
 
-fn main() {
-    accepted();
-    shapes();
-    pairs();
-    cut(71);
-    fields();
-    names();
-    order();
-    room(1);
-    room(2);
+fn main(rt: HostRuntime) -> io::Result<()> {
+    accepted(&rt)?;
+    shapes(&rt)?;
+    pairs(&rt)?;
+    cut(&rt, 71)?;
+    fields(&rt)?;
+    names(&rt)?;
+    order(&rt)?;
+    room(&rt, 1)?;
+    room(&rt, 2)
 }

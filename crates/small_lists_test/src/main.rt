@@ -3,28 +3,28 @@
 
 #![tactic(auto)]
 
-use libc::STDOUT_FILENO;
 use small_lists::ListsAnswer;
+use std::io;
 
-fn word(text: &[u8]) {
-    io::write_all(STDOUT_FILENO, text);
+fn word(rt: &impl Print, text: &[u8]) -> io::Result<()> {
+    rt.write_all(text)
 }
 
-fn number(n: u64) {
-    io::print_decimal(STDOUT_FILENO, n);
+fn number(rt: &impl Print, n: u64) -> io::Result<()> {
+    rt.print(n)
 }
 
 fn wide(x: u8) -> u64 {
     x as u64
 }
 
-fn tell(a: ListsAnswer) {
+fn tell(rt: &impl Print, a: ListsAnswer) -> io::Result<()> {
     match a {
-        ListsAnswer::Done => word(b": ok, "),
+        ListsAnswer::Done => word(rt, b": ok, "),
         ListsAnswer::Refused(e) => {
-            word(b": no ");
-            number(refusal::number(e));
-            word(b", ");
+            word(rt, b": no ")?;
+            number(rt, refusal::number(e))?;
+            word(rt, b", ")
         }
     }
 }
@@ -58,66 +58,68 @@ fn total(out: &[u8; 1700]) -> Totals {
     t
 }
 
-fn write(out: &mut [u8], length: usize) {
+fn write(rt: &impl Print, out: &mut [u8], length: usize) -> io::Result<()> {
     if length <= out.len() {
-        tell(small_lists::write(&mut out[..length]));
+        tell(rt, small_lists::write(&mut out[..length]))?;
     }
+    Ok(())
 }
 
-fn output(length: u16) {
+fn output(rt: &impl Print, length: u16) -> io::Result<()> {
     let mut out = [165u8; 1700];
-    word(b"write ");
-    number(length as u64);
-    write(&mut out, length as usize);
+    word(rt, b"write ")?;
+    number(rt, length as u64)?;
+    write(rt, &mut out, length as usize)?;
     let t = total(&out);
-    number(t.same);
-    word(b" as they were, sum ");
-    number(t.sum);
-    word(b"\n");
+    number(rt, t.same)?;
+    word(rt, b" as they were, sum ")?;
+    number(rt, t.sum)?;
+    word(rt, b"\n")
 }
 
 // List k of the output.
-fn list(out: &[u8; 1700], k: u16) {
+fn list(rt: &impl Print, out: &[u8; 1700], k: u16) -> io::Result<()> {
     if k < 425 {
         let at = 4 * k as usize;
-        word(b"list ");
-        number(k as u64);
-        word(b": ");
-        number(wide(out[at]));
-        word(b" ");
-        number(wide(out[at + 1]));
-        word(b" ");
-        number(wide(out[at + 2]));
-        word(b" ");
-        number(wide(out[at + 3]));
-        word(b"\n");
+        word(rt, b"list ")?;
+        number(rt, k as u64)?;
+        word(rt, b": ")?;
+        number(rt, wide(out[at]))?;
+        word(rt, b" ")?;
+        number(rt, wide(out[at + 1]))?;
+        word(rt, b" ")?;
+        number(rt, wide(out[at + 2]))?;
+        word(rt, b" ")?;
+        number(rt, wide(out[at + 3]))?;
+        word(rt, b"\n")?;
     }
+    Ok(())
 }
 
-fn lists() {
+fn lists(rt: &impl Print) -> io::Result<()> {
     let mut out = [165u8; 1700];
     small_lists::write(&mut out);
-    list(&out, 0);
-    list(&out, 1);
-    list(&out, 7);
-    list(&out, 8);
-    list(&out, 9);
-    list(&out, 56);
-    list(&out, 57);
-    list(&out, 58);
-    list(&out, 399);
-    list(&out, 400);
+    list(rt, &out, 0)?;
+    list(rt, &out, 1)?;
+    list(rt, &out, 7)?;
+    list(rt, &out, 8)?;
+    list(rt, &out, 9)?;
+    list(rt, &out, 56)?;
+    list(rt, &out, 57)?;
+    list(rt, &out, 58)?;
+    list(rt, &out, 399)?;
+    list(rt, &out, 400)
 }
 
-fn main() {
-    output(0);
-    output(1);
-    output(4);
-    output(1596);
-    output(1599);
-    output(1600);
-    output(1601);
-    output(1604);
-    output(1700);
-    lists();
+fn main(rt: HostRuntime) -> io::Result<()> {
+    output(&rt, 0)?;
+    output(&rt, 1)?;
+    output(&rt, 4)?;
+    output(&rt, 1596)?;
+    output(&rt, 1599)?;
+    output(&rt, 1600)?;
+    output(&rt, 1601)?;
+    output(&rt, 1604)?;
+    output(&rt, 1700)?;
+    lists(&rt)
 }

@@ -3,7 +3,8 @@
 #![tactic(auto)]
 
 use engine::{CommitAnswer, OpenAnswer, RecordAnswer};
-use libc::STDOUT_FILENO;
+use std::io;
+use std::rt::Files;
 
 // One reading at time 0 for each station other than 0.
 fn post_readings(b: &mut [u8], stations: u64) {
@@ -53,18 +54,18 @@ fn run_by(b: &mut [u8], steps: u32, step: u32, out: &mut [u8]) {
     }
 }
 
-fn say_heard(b: &[u8]) {
+fn say_heard(rt: &impl Print, b: &[u8]) -> io::Result<()> {
     let RecordAnswer::Done(s) = engine::record(b, 0) else {
-        return;
+        return Ok(());
     };
-    io::print_decimal(STDOUT_FILENO, s.heard as u64);
-    io::write_all(STDOUT_FILENO, b" ");
+    rt.print(s.heard as u64)?;
+    rt.write_all(b" ")
 }
 
-fn say_tariff(plan: &[u8], c: u64) {
+fn say_tariff(rt: &impl Print, plan: &[u8], c: u64) -> io::Result<()> {
     let mut text = [0u8; 96];
     let n = bench_printing::print_tariff(&mut text, 0, tariff::at(plan, c));
-    console::put(&text, n);
+    console::put(rt, &text, n)
 }
 
 // The line of a plan of so many stations is run to c, with commits on the way.
@@ -78,33 +79,40 @@ fn run_star(plan: &[u8], b: &mut [u8], stations: u64, steps: u32, step: u32, c: 
     run_to(b, c, &mut out);
 }
 
-fn show(path: &[u8], stations: u64, steps: u32, step: u32, c: u64) {
+fn show(
+    rt: &(impl Files + Print),
+    path: &[u8],
+    stations: u64,
+    steps: u32,
+    step: u32,
+    c: u64,
+) -> io::Result<()> {
     let mut plan = [0u8; 16384];
-    let len = console::read_plan(path, &mut plan);
+    let len = console::read_plan(rt, path, &mut plan);
     let mut b = [0u8; 360448];
     run_star(&plan[..len], &mut b, stations, steps, step, c);
-    say_heard(&b);
-    say_tariff(&plan[..len], c);
+    say_heard(rt, &b)?;
+    say_tariff(rt, &plan[..len], c)
 }
 
-fn main() {
-    show(b"three.bin", 3, 0, 0, 0);
-    show(b"three.bin", 3, 0, 0, 30);
-    show(b"three.bin", 3, 0, 0, 31);
-    show(b"three.bin", 3, 0, 0, 45);
-    show(b"three.bin", 3, 0, 0, 46);
-    show(b"three.bin", 3, 0, 0, 745);
-    show(b"three.bin", 3, 0, 0, 746);
-    show(b"three.bin", 3, 0, 0, 1001);
-    show(b"three.bin", 3, 0, 0, 1030);
-    show(b"three.bin", 3, 0, 0, 1031);
-    show(b"three.bin", 3, 360, 10000, 3600000);
-    show(b"named.bin", 3, 0, 0, 2);
-    show(b"named.bin", 3, 0, 0, 3);
-    show(b"named.bin", 3, 0, 0, 50);
-    show(b"one.bin", 1, 0, 0, 100);
-    show(b"day.bin", 256, 36, 100000, 3600000);
-    show(b"day.bin", 256, 36, 100000, 3600251);
-    show(b"slowest.bin", 2, 256, 4294967295, 1099511627775);
-    show(b"slowest.bin", 2, 256, 4294967295, 1099511627776);
+fn main(rt: HostRuntime) -> io::Result<()> {
+    show(&rt, b"three.bin", 3, 0, 0, 0)?;
+    show(&rt, b"three.bin", 3, 0, 0, 30)?;
+    show(&rt, b"three.bin", 3, 0, 0, 31)?;
+    show(&rt, b"three.bin", 3, 0, 0, 45)?;
+    show(&rt, b"three.bin", 3, 0, 0, 46)?;
+    show(&rt, b"three.bin", 3, 0, 0, 745)?;
+    show(&rt, b"three.bin", 3, 0, 0, 746)?;
+    show(&rt, b"three.bin", 3, 0, 0, 1001)?;
+    show(&rt, b"three.bin", 3, 0, 0, 1030)?;
+    show(&rt, b"three.bin", 3, 0, 0, 1031)?;
+    show(&rt, b"three.bin", 3, 360, 10000, 3600000)?;
+    show(&rt, b"named.bin", 3, 0, 0, 2)?;
+    show(&rt, b"named.bin", 3, 0, 0, 3)?;
+    show(&rt, b"named.bin", 3, 0, 0, 50)?;
+    show(&rt, b"one.bin", 1, 0, 0, 100)?;
+    show(&rt, b"day.bin", 256, 36, 100000, 3600000)?;
+    show(&rt, b"day.bin", 256, 36, 100000, 3600251)?;
+    show(&rt, b"slowest.bin", 2, 256, 4294967295, 1099511627775)?;
+    show(&rt, b"slowest.bin", 2, 256, 4294967295, 1099511627776)
 }

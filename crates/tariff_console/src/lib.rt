@@ -5,6 +5,9 @@
 ghost use Rattle.tariff_console.specs.Promises.{TellsTariff, RepliesTariff};
 
 use bench_parsing::Number;
+use std::io;
+use std::io::Input;
+use std::rt::Files;
 use tariff_answers::TariffAnswer;
 
 // The tariff at the commit time that a line says, without the byte that ends it.
@@ -25,13 +28,13 @@ pub fn reply(plan: &[u8], line: &[u8], text: &mut [u8]) -> usize
 }
 
 // The plan in that file, and the next line of the standard input: no number has more than 20 digits, so of a line 21 bytes are enough. It lends nothing to its
-// caller and returns nothing, so its contract has nothing to speak of: what it prints is in the contract of `reply`.
-pub fn serve(path: &[u8]) {
+// caller and returns nothing but the error of a write, so its contract has nothing to speak of: what it prints is in the contract of `reply`.
+pub fn serve(rt: &(impl Files + Input + Print), path: &[u8]) -> io::Result<()> {
     let mut plan = [0u8; 16384];
-    let n = console::read_plan(path, &mut plan);
+    let n = console::read_plan(rt, path, &mut plan);
     let mut line = [0u8; 21];
-    let len = console::read_line(&mut line);
+    let len = console::read_line(&mut rt.reader(), &mut line);
     let mut text = [0u8; 96];
     let k = reply(&plan[..n], &line[..len], &mut text);
-    console::put(&text, k);
+    console::put(rt, &text, k)
 }

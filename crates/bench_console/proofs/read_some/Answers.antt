@@ -1,19 +1,24 @@
 -- What is read is taken; where nothing is, the line that has not ended is the last.
-use Prim.Native.Nat.{◌<◌}
 use native.Mathlib.Omega.{arith}
-use borrow.Author.Rules.{rules}
+use Prim.Native.Nat.{◌<◌}
 use lib.ListN.{take}
-use Rattle.bench_console.proofs.Feeding.{ends_whole, ends_last}
+use Rattle.std.proofs.lemmas.Result.{MatchResult-from_err}
+use Rattle.bench_console.proofs.Feeding.{ends_whole, ends_last, last_stops, stops_later}
 use Rattle.bench_console.proofs.read_some.Goals as goal
 
-pub returns-then-len-gt0 : goal.returns-then-len-gt0
-returns-then-len-gt0 c =
+pub returns-in_err-answer-clause-fed : goal.returns-in_err-answer-clause-fed
+returns-in_err-answer-clause-fed g c =
     let some : 0 < c.args.len = omega (arith, c.if-len-gt0.true) in
-    (tt, λ xs input C. ends_last c.requires.1 some c.answer.ensures C)
+    λ xs input C. MatchResult-from_err c.from_residual.result _ _ c.from_residual.ensures.0 (λ _. last_stops (ends_last c.requires.1 some c.answer.ensures C))
 
-pub returns-else-len-gt0 : goal.returns-else-len-gt0
-returns-else-len-gt0 c = (tt, λ xs input C. ends_whole c.requires.1 c.if-len-gt0.false C)
+pub returns-in_ok-answer-clause-fed : goal.returns-in_ok-answer-clause-fed
+returns-in_ok-answer-clause-fed g c =
+    let some : 0 < c.args.len = omega (arith, c.if-len-gt0.true) in
+    λ xs input C. ends_last c.requires.1 some c.answer.ensures C
 
-pub returns : goal.returns
-returns c =
-    (c.take_all.ensures.within, λ xs input C. record { read = take c.count-n.result c.read.new.1.0; console = c.take_all.ensures.fed xs input C })
+pub returns-else-len-gt0-clause-fed : goal.returns-else-len-gt0-clause-fed
+returns-else-len-gt0-clause-fed g c = λ xs input C. ends_whole c.requires.1 c.if-len-gt0.false C
+
+pub returns-clause-fed : goal.returns-clause-fed
+returns-clause-fed g c =
+    λ xs input C. record { read = take c.read_some-n.result c.read_some-n.new.buf; console = c.in_ok-take_all.ensures.fed xs input C }

@@ -1,17 +1,12 @@
 -- One byte a turn; both buffers keep their lengths.
-use mathlib.Core.Path.{◌≡◌, refl, ◌∙◌}
-use mathlib.Core.List.{List, ◌++◌}
-use Prim.Native.Nat.{ℕ, ◌-◌, ◌≤◌}
-use native.Mathlib.Omega.{arith}
-use lib.ListN.{length, take}
+use Rattle.std.proofs.Common.{◌≡◌, List, ◌++◌, ℕ, ◌-◌, ◌≤◌, length, take}
 use Rattle.bench_console.specs.Steps.{Console}
-use Rattle.bench_console.proofs.Feeding.{feed_none, feed_next, feed_all}
 use Rattle.bench_console.proofs.take_all.Given as goal
 
 abbrev pub invariant-loop-i : goal.invariant-loop-i
-invariant-loop-i l =
+invariant-loop-i g l =
     (l.i ≤ length l.input) × (l.at ≤ length l.line) × (length l.b ≡ length l.initial.b) × (length l.line ≡ length l.initial.line)
     × ((xs before : List ℕ) → Console xs before l.initial.line l.len l.initial.b → Console xs (before ++ take l.i l.input) l.line l.at l.b)
 
 abbrev pub decreases-loop-i : goal.decreases-loop-i
-decreases-loop-i l = length l.input - l.i
+decreases-loop-i g l = length l.input - l.i
