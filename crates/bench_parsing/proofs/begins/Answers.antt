@@ -1,8 +1,6 @@
 -- The bytes that are passed agree.
-use mathlib.Core.Path.{◌≡◌, refl}
-use Prim.Native.Nat.{◌-◌, ◌≤◌}
+use mathlib.Core.Path.{refl}
 use native.Mathlib.Omega.{arith}
-use lib.ListN.{length, take}
 use Rattle.bench_parsing.proofs.Words.{agrees, differs, too_short, whole}
 use Rattle.bench_parsing.proofs.begins.Goals as goal
 

@@ -1,10 +1,7 @@
 -- What is passed are digits, and what is left of them is to count.
-use mathlib.Core.Path.{◌≡◌}
-use Prim.Native.Nat.{◌+◌, ◌-◌, ◌≤◌}
 use native.Mathlib.Omega.{arith}
-use lib.ListN.{length, get_or, drop}
+use lib.ListN.{get_or}
 use borrow.Author.Tests.{le-leb, lt-leb}
-use Rattle.bench_command.specs.Numeral.{digit_count}
 use Rattle.bench_command.proofs.Numerals.{at_digit, at_other, at_end}
 use Rattle.bench_parsing.proofs.digit_count.Goals as goal
 

@@ -1,11 +1,8 @@
 -- What is passed are digits, and what is left of them is to count.
 use mathlib.Core.Path.{◌≡◌}
 use Prim.Native.Nat.{◌+◌, ◌-◌, ◌≤◌}
-use native.Mathlib.Omega.{arith}
-use lib.ListN.{length, get_or, drop}
-use borrow.Author.Tests.{le-leb, lt-leb}
+use lib.ListN.{length, drop}
 use Rattle.bench_command.specs.Numeral.{digit_count}
-use Rattle.bench_command.proofs.Numerals.{at_digit, at_other, at_end}
 use Rattle.bench_parsing.proofs.digit_count.Given as goal
 
 abbrev pub invariant-loop-i : goal.invariant-loop-i

@@ -1,5 +1,4 @@
 -- The word says which form a line can have, and without one of the four words it has none.
-use borrow.Author.Rules.{rules}
 use Rattle.bench_parsing.proofs.Accepting.{refuses_words}
 use Rattle.bench_parsing.proofs.parse.Goals as goal
 

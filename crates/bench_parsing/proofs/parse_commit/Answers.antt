@@ -1,5 +1,4 @@
 -- The line is the word commit with one number after it, or it is refused.
-use borrow.Author.Rules.{rules}
 use Rattle.bench_parsing.proofs.Accepting.{refuses_commit, takes_commit}
 use Rattle.bench_parsing.proofs.parse_commit.Goals as goal
 

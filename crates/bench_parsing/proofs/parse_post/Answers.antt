@@ -1,5 +1,4 @@
 -- The line is the word post with four numbers after it, or it is refused where the first of them is missing.
-use borrow.Author.Rules.{rules}
 use Rattle.bench_parsing.proofs.Posts.{no_station, no_time, no_kind, no_value, no_end, takes_post}
 use Rattle.bench_parsing.proofs.parse_post.Goals as goal
 

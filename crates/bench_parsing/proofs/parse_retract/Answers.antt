@@ -1,5 +1,4 @@
 -- The line is the word retract with one number after it, or it is refused.
-use borrow.Author.Rules.{rules}
 use Rattle.bench_parsing.proofs.Accepting.{refuses_retract, takes_retract}
 use Rattle.bench_parsing.proofs.parse_retract.Goals as goal
 

@@ -1,5 +1,4 @@
 -- The line is the word run alone, or with one number after it, or it is refused.
-use borrow.Author.Rules.{rules}
 use Rattle.bench_parsing.proofs.Accepting.{refuses_run, takes_run, takes_station}
 use Rattle.bench_parsing.proofs.parse_run.Goals as goal
 

@@ -1,5 +1,4 @@
 -- A space, then the number.
-use borrow.Author.Rules.{rules}
 use Rattle.bench_printing.proofs.Appending.{then}
 use Rattle.bench_printing.proofs.append_after.Goals as goal
 

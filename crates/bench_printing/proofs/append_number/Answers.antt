@@ -1,11 +1,9 @@
 -- The digits are written from the last to the first (`step`), where there is room for them (`no_room`).
-use borrow.Author.Rules.{rules}
-use mathlib.Core.Path.{◌≡◌, refl}
-use Prim.Native.Nat.{◌≤◌, ◌<◌, ◌^◌}
+use mathlib.Core.Path.{refl}
 use native.Mathlib.Omega.{arith}
-use lib.ListN.{length, length-set}
+use lib.ListN.{length-set}
 use Rattle.bench_printing.proofs.Appending.{no_room}
-use Rattle.bench_printing.proofs.Backward.{Writing, start, step, finish}
+use Rattle.bench_printing.proofs.Backward.{start, step, finish}
 use Rattle.bench_printing.proofs.append_number.Goals as goal
 
 pub returns-then-out-n : goal.returns-then-out-n

@@ -1,11 +1,8 @@
 -- The digits are written from the last to the first (`step`), where there is room for them (`no_room`).
-use borrow.Author.Rules.{rules}
-use mathlib.Core.Path.{◌≡◌, refl}
+use mathlib.Core.Path.{◌≡◌}
 use Prim.Native.Nat.{◌≤◌, ◌<◌, ◌^◌}
-use native.Mathlib.Omega.{arith}
-use lib.ListN.{length, length-set}
-use Rattle.bench_printing.proofs.Appending.{no_room}
-use Rattle.bench_printing.proofs.Backward.{Writing, start, step, finish}
+use lib.ListN.{length}
+use Rattle.bench_printing.proofs.Backward.{Writing}
 use Rattle.bench_printing.proofs.append_number.Given as goal
 
 abbrev pub invariant-loop-k : goal.invariant-loop-k

@@ -1,13 +1,7 @@
 -- The bytes that are passed are appended.
-use mathlib.Core.Path.{sym}
 use Prim.Native.Nat.{◌-◌, ◌≤◌}
-use native.Mathlib.Omega.{arith}
-use borrow.Author.Rules.{rules}
 use lib.ListN.{length, take}
-use lib.Seq.{take_all}
 use Rattle.bench_printing.specs.Steps.{Appends}
-use Rattle.bench_printing.proofs.Appending.{nothing, then, read_as}
-use Rattle.bench_command.proofs.Prefixes.{next_byte}
 use Rattle.bench_printing.proofs.append_word.Given as goal
 
 abbrev pub invariant-loop-i : goal.invariant-loop-i

@@ -1,5 +1,4 @@
 -- Each answer is a word with one number or two.
-use borrow.Author.Rules.{rules}
 use mathlib.Core.Path.{sym, ap}
 use Rattle.bench_command.specs.Lines.{output_of}
 use Rattle.bench_printing.proofs.Appending.{read_as}

@@ -1,5 +1,4 @@
 -- The parts of the line, one after the other.
-use borrow.Author.Rules.{rules}
 use mathlib.Core.Path.{ap}
 use mathlib.Core.List.{◌∷◌}
 use Prim.Native.Nat.{ℕ}

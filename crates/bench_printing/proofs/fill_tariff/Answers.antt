@@ -1,5 +1,4 @@
 -- Yes is a word with one number; no is a word.
-use borrow.Author.Rules.{rules}
 use mathlib.Core.Path.{sym, ap}
 use Rattle.bench_command.specs.TariffLine.{tariff_line}
 use Rattle.bench_printing.proofs.Appending.{read_as}

@@ -1,6 +1,5 @@
 -- A buffer of 96 bytes has room for every answer.
 use native.Mathlib.Omega.{arith}
-use borrow.Author.Rules.{rules}
 use Rattle.bench_printing.proofs.Room.{output_room, printed, too_short}
 use Rattle.bench_printing.proofs.print.Goals as goal
 

@@ -1,6 +1,5 @@
 -- A buffer of 96 bytes has room for every entry.
 use native.Mathlib.Omega.{arith}
-use borrow.Author.Rules.{rules}
 use Rattle.bench_printing.proofs.Room.{entry_room, printed, too_short}
 use Rattle.bench_printing.proofs.print_entry.Goals as goal
 

@@ -1,5 +1,4 @@
 -- The parts of the line, one after the other.
-use borrow.Author.Rules.{rules}
 use Rattle.bench_command.specs.Lines.{spaced}
 use Rattle.bench_printing.proofs.Appending.{then}
 use Rattle.bench_printing.proofs.print_one.Goals as goal

@@ -1,11 +1,8 @@
 -- Each turn takes one digit off, and counts it.
 use mathlib.Core.Path.{◌≡◌}
 use Prim.Native.Nat.{◌+◌, ◌<◌, ◌^◌}
-use native.Mathlib.Omega.{arith}
 use lib.ListN.{length}
 use Rattle.bench_command.specs.Decimal.{decimal}
-use Rattle.bench_command.proofs.Reading.{length_one, length_more}
-use Rattle.bench_printing.proofs.Backward.{at_most_20}
 use Rattle.bench_printing.proofs.width.Given as goal
 
 abbrev pub invariant-loop-rest : goal.invariant-loop-rest

@@ -1,7 +1,6 @@
 -- The tests in their order, then the sum.
 use native.Mathlib.Omega.{arith}
 use mathlib.Core.Path.{sym, ap, ◌∙◌}
-use borrow.Author.Rules.{rules}
 use Rattle.plan_format.specs.declared.ReadAnswer.TheVariants.{Stations}
 use Rattle.tariff.proofs.Checking.{star_judged}
 use Rattle.tariff.proofs.Answering.{too_late, no_star, a_star}

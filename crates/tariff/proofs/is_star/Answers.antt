@@ -1,7 +1,6 @@
 -- A refused plan is no star's; of an accepted one every station is tested.
 use native.Mathlib.Omega.{arith}
 use mathlib.Core.Path.{sym, ◌∙◌}
-use borrow.Author.Rules.{rules}
 use Rattle.tariff.proofs.Checking.{judged_no, judged_yes}
 use Rattle.tariff.proofs.Summing.{few}
 use Rattle.tariff.proofs.is_star.Goals as goal

@@ -1,6 +1,5 @@
 -- Nothing up to the hop delay, then a frame for each period begun.
 use native.Mathlib.Omega.{arith}
-use borrow.Author.Rules.{rules}
 use Rattle.tariff.proofs.Summing.{none_yet, rounded, share_most}
 use Rattle.tariff.proofs.share.Goals as goal
 

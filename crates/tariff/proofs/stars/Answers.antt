@@ -1,12 +1,9 @@
 -- Each station below s is a star's.
-use Prim.Native.Nat.{◌-◌, ◌≤◌}
 use native.Mathlib.Omega.{arith}
 use mathlib.Core.Path.{◌≡◌, sym, ◌∙◌}
-use mathlib.Core.Bool.{true}
-use borrow.Author.Rules.{rules}
 use borrow.Author.Tests.{not-true, not-false}
 use Rattle.plan_format.specs.Line.{line_of}
-use Rattle.tariff.specs.Star.{star_at, star_below}
+use Rattle.tariff.specs.Star.{star_at}
 use Rattle.tariff.proofs.Checking.{star_none, star_next, star_all, star_broken, star_is}
 use Rattle.tariff.proofs.stars.Goals as goal
 

@@ -1,9 +1,7 @@
 -- The sum over the stations from 1 on that are below s.
-use Prim.Native.Nat.{◌-◌, ◌*◌, ◌≤◌}
 use native.Mathlib.Omega.{arith}
-use mathlib.Core.Path.{◌≡◌, refl}
-use borrow.Author.Rules.{rules}
-use Rattle.tariff.proofs.Summing.{few, calm_some, sum_before, sum_next, sum_all}
+use mathlib.Core.Path.{refl}
+use Rattle.tariff.proofs.Summing.{few, calm_some, sum_next, sum_all}
 use Rattle.tariff.proofs.sum.Goals as goal
 
 pub overflow_sub-last : goal.overflow_sub-last

@@ -1,9 +1,7 @@
 -- The sum over the stations from 1 on that are below s.
 use Prim.Native.Nat.{◌-◌, ◌*◌, ◌≤◌}
-use native.Mathlib.Omega.{arith}
-use mathlib.Core.Path.{◌≡◌, refl}
-use borrow.Author.Rules.{rules}
-use Rattle.tariff.proofs.Summing.{few, calm_some, sum_before, sum_next, sum_all}
+use mathlib.Core.Path.{◌≡◌}
+use Rattle.tariff.proofs.Summing.{sum_before}
 use Rattle.tariff.proofs.sum.Given as goal
 
 abbrev pub invariant-loop-s : goal.invariant-loop-s

@@ -1,8 +1,6 @@
 -- The bytes that are passed agree.
-use mathlib.Core.Path.{◌≡◌, refl}
-use Prim.Native.Nat.{◌-◌, ◌≤◌}
+use mathlib.Core.Path.{refl}
 use native.Mathlib.Omega.{arith}
-use lib.ListN.{length, take}
 use Rattle.text_reading.proofs.Words.{agrees, differs, too_short, whole}
 use Rattle.text_reading.proofs.begins.Goals as goal
 

@@ -1,9 +1,7 @@
 -- The bytes that are passed agree.
-use mathlib.Core.Path.{◌≡◌, refl}
+use mathlib.Core.Path.{◌≡◌}
 use Prim.Native.Nat.{◌-◌, ◌≤◌}
-use native.Mathlib.Omega.{arith}
 use lib.ListN.{length, take}
-use Rattle.text_reading.proofs.Words.{agrees, differs, too_short, whole}
 use Rattle.text_reading.proofs.begins.Given as goal
 
 abbrev pub invariant-loop-i : goal.invariant-loop-i

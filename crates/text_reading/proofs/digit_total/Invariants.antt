@@ -1,14 +1,8 @@
 -- What is read is the total of the digits that are passed: where it is over, so is the whole (`over`).
-use mathlib.Core.Path.{◌≡◌, sym, ap, ◌∙◌}
-use mathlib.Core.List.{List}
-use Prim.Native.Nat.{ℕ, suc, ◌+◌, ◌-◌, ◌*◌, ◌≤◌, ◌<◌}
-use native.Mathlib.Omega.{arith}
-use lib.ListN.{get_or, drop}
-use borrow.Author.Tests.{le-leb, lt-leb}
-use Rattle.text_reading.specs.declared.Total.TheVariants.{Over}
+use mathlib.Core.Path.{◌≡◌}
+use Prim.Native.Nat.{◌+◌, ◌-◌, ◌≤◌}
+use lib.ListN.{drop}
 use Rattle.text.specs.Numeral.{digit_count, total}
-use Rattle.text_reading.specs.Steps.{total_of}
-use Rattle.text.proofs.Numerals.{Digit, at_digit, sum_digit, digit_at, total_stops, stops_count, total_least}
 use Rattle.text_reading.proofs.digit_total.Given as goal
 
 abbrev pub invariant-loop-k : goal.invariant-loop-k

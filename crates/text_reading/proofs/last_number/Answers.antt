@@ -1,5 +1,4 @@
 -- The number after a space, where it ends the line.
-use borrow.Author.Rules.{rules}
 use Rattle.text_reading.proofs.Found.{last_some, last_none, last_more}
 use Rattle.text_reading.proofs.last_number.Goals as goal
 

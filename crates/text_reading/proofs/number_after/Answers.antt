@@ -1,5 +1,4 @@
 -- A number stands after a space where one stands after it.
-use borrow.Author.Rules.{rules}
 use Rattle.text_reading.proofs.Found.{spaced, none_past, none_unspaced}
 use Rattle.text_reading.proofs.number_after.Goals as goal
 

@@ -1,5 +1,4 @@
 -- Digits without a leading zero whose total fits are a number, and nothing else is.
-use borrow.Author.Rules.{rules}
 use mathlib.Core.Path.{sym, ◌∙◌}
 use native.Mathlib.Omega.{arith}
 use lib.ListN.{length-drop, drop}

@@ -1,5 +1,4 @@
 -- A space, then the number.
-use borrow.Author.Rules.{rules}
 use Rattle.text_writing.proofs.Appending.{appends_join}
 use Rattle.text_writing.proofs.append_after.Goals as goal
 

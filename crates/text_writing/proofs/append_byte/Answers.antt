@@ -1,6 +1,5 @@
 -- A byte is stored where there is room.
 use native.Mathlib.Omega.{arith}
-use borrow.Author.Rules.{rules}
 use Rattle.text_writing.proofs.Appending.{one_byte, no_room}
 use Rattle.text_writing.proofs.append_byte.Goals as goal
 

@@ -1,11 +1,9 @@
 -- The digits are written from the last to the first (`store`), those that have room (`leave`).
-use borrow.Author.Rules.{rules}
-use mathlib.Core.Path.{◌≡◌, refl}
-use Prim.Native.Nat.{◌≤◌, ◌<◌, ◌^◌}
+use mathlib.Core.Path.{refl}
 use native.Mathlib.Omega.{arith}
-use lib.ListN.{length, length-set}
+use lib.ListN.{length-set}
 use Rattle.text_writing.proofs.Appending.{no_room}
-use Rattle.text_writing.proofs.Backward.{Writing, start, store, leave, finish}
+use Rattle.text_writing.proofs.Backward.{start, store, leave, finish}
 use Rattle.text_writing.proofs.append_number.Goals as goal
 use Rattle.text_writing.proofs.append_number.Goals.{then-k-room, else-k-room}
 

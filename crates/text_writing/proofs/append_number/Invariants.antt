@@ -1,12 +1,8 @@
 -- The digits are written from the last to the first (`store`), those that have room (`leave`).
-use borrow.Author.Rules.{rules}
-use mathlib.Core.Logic.{⊎_elim}
-use mathlib.Core.Path.{◌≡◌, refl}
+use mathlib.Core.Path.{◌≡◌}
 use Prim.Native.Nat.{◌≤◌, ◌<◌, ◌^◌}
-use native.Mathlib.Omega.{arith}
-use lib.ListN.{length, length-set}
-use Rattle.text_writing.proofs.Appending.{no_room}
-use Rattle.text_writing.proofs.Backward.{Writing, start, store, leave, finish}
+use lib.ListN.{length}
+use Rattle.text_writing.proofs.Backward.{Writing}
 use Rattle.text_writing.proofs.append_number.Given as goal
 
 abbrev pub invariant-loop-k : goal.invariant-loop-k

@@ -1,11 +1,7 @@
 -- As often as the loop has turned, the byte is appended.
-use mathlib.Core.Path.{◌≡◌, ap}
-use Prim.Native.Nat.{ℕ, ◌-◌, ◌≤◌}
-use native.Mathlib.Omega.{arith}
-use borrow.Author.Rules.{rules}
-use lib.ListN.{replicate, replicate-append-replicate}
+use Prim.Native.Nat.{◌-◌, ◌≤◌}
+use lib.ListN.{replicate}
 use Rattle.text_writing.specs.Promises.{Appends}
-use Rattle.text_writing.proofs.Appending.{nothing, appends_join, read_as, same_size}
 use Rattle.text_writing.proofs.append_times.Given as goal
 
 abbrev pub invariant-loop-i : goal.invariant-loop-i

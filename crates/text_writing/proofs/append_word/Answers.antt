@@ -1,11 +1,7 @@
 -- The bytes that are passed are appended.
 use mathlib.Core.Path.{sym}
-use Prim.Native.Nat.{◌-◌, ◌≤◌}
 use native.Mathlib.Omega.{arith}
-use borrow.Author.Rules.{rules}
-use lib.ListN.{length, take}
 use lib.Seq.{take_all}
-use Rattle.text_writing.specs.Promises.{Appends}
 use Rattle.text_writing.proofs.Appending.{nothing, appends_join, read_as, same_size}
 use Rattle.text.proofs.Prefixes.{next_byte}
 use Rattle.text_writing.proofs.append_word.Goals as goal

@@ -1,9 +1,5 @@
 -- Each turn takes one digit off, and counts it.
-use mathlib.Core.Path.{◌≡◌}
-use Prim.Native.Nat.{◌+◌, ◌<◌, ◌^◌}
 use native.Mathlib.Omega.{arith}
-use lib.ListN.{length}
-use Rattle.text.specs.Decimal.{decimal}
 use Rattle.text.proofs.Reading.{length_one, length_more}
 use Rattle.text.proofs.Places.{at_most_20}
 use Rattle.text_writing.proofs.width.Goals as goal

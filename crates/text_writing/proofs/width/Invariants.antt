@@ -1,11 +1,8 @@
 -- Each turn takes one digit off, and counts it.
 use mathlib.Core.Path.{◌≡◌}
 use Prim.Native.Nat.{◌+◌, ◌<◌, ◌^◌}
-use native.Mathlib.Omega.{arith}
 use lib.ListN.{length}
 use Rattle.text.specs.Decimal.{decimal}
-use Rattle.text.proofs.Reading.{length_one, length_more}
-use Rattle.text.proofs.Places.{at_most_20}
 use Rattle.text_writing.proofs.width.Given as goal
 
 abbrev pub invariant-loop-rest : goal.invariant-loop-rest
