@@ -1,6 +1,5 @@
 -- A refusal's number, or 0.
 use mathlib.Core.Path.{sym, ap, ◌∙◌}
-use borrow.Author.Rules.{rules}
 use Rattle.exports_small_lists.specs.ListsCodes.{lists_code}
 use Rattle.exports_small_lists.proofs.code.Goals as goal
 

@@ -1,5 +1,4 @@
 -- Each way through the code is the rule for one length.
-use borrow.Author.Rules.{rules}
 use Rattle.small_lists.proofs.Rows.{of_none, of_one, of_two, of_three}
 use Rattle.small_lists.proofs.list_at.Goals as goal
 

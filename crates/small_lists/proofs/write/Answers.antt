@@ -1,6 +1,6 @@
 -- The loop writes one list after the other: the first i stand at the front.
 use mathlib.Core.Path.{◌≡◌, refl, ap, ◌∙◌}
-use Prim.Native.Nat.{◌+◌, ◌-◌, ◌≤◌}
+use Prim.Native.Nat.{◌+◌}
 use native.Mathlib.Omega.{arith}
 use lib.ListN.{length, length-set}
 use Rattle.small_lists.proofs.Answers.{too_short, written}

@@ -1,10 +1,8 @@
 -- The loop writes one list after the other: the first i stand at the front.
-use mathlib.Core.Path.{◌≡◌, refl, ap, ◌∙◌}
-use Prim.Native.Nat.{◌+◌, ◌-◌, ◌≤◌}
-use native.Mathlib.Omega.{arith}
-use lib.ListN.{length, length-set}
-use Rattle.small_lists.proofs.Answers.{too_short, written}
-use Rattle.small_lists.proofs.Writing.{front, front_none, front_long, front_all, front_more}
+use mathlib.Core.Path.{◌≡◌}
+use Prim.Native.Nat.{◌-◌, ◌≤◌}
+use lib.ListN.{length}
+use Rattle.small_lists.proofs.Writing.{front}
 use Rattle.small_lists.proofs.write.Given as goal
 
 abbrev pub invariant-loop-i : goal.invariant-loop-i
