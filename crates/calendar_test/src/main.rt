@@ -53,6 +53,11 @@ fn tell_least(rt: &impl Print, l: Least) -> io::Result<()> {
     }
 }
 
+// A long buffer. It comes from a call, so that a proof of what lends it knows its length alone: one that saw the array itself would go through it byte by byte.
+fn filled<const N: usize>() -> [u8; N] {
+    [165u8; N]
+}
+
 fn open(rt: &impl Print, n: u64, arity: u64, width: u64, b: &mut [u8]) -> io::Result<()> {
     word(rt, b"open")?;
     number(rt, n)?;
@@ -128,8 +133,7 @@ fn open_first(rt: &impl Print, arity: u64, b: &mut [u8], bytes: usize) -> io::Re
     open(rt, 1, arity, 64, &mut b[0..bytes])
 }
 
-// For one station, the longest buffer that is too short, and the shortest that is not. The prover's time for a local array grows with its length and with the
-// places that lend it: so the longest ones are lent once or a few times.
+// For one station, the longest buffer that is too short, and the shortest that is not.
 fn bounds_on(rt: &impl Print, b: &mut [u8]) -> io::Result<()> {
     open_first(rt, 8, b, 8255)?;
     open_first(rt, 8, b, 8256)?;
@@ -142,7 +146,7 @@ fn bounds_on(rt: &impl Print, b: &mut [u8]) -> io::Result<()> {
 }
 
 fn bounds(rt: &impl Print) -> io::Result<()> {
-    let mut b = [165u8; 524352];
+    let mut b = filled::<524352>();
     bounds_on(rt, &mut b)
 }
 
@@ -353,7 +357,7 @@ fn words_read(
     end: u64,
     over: u64,
 ) -> io::Result<()> {
-    let mut b = [165u8; 524544];
+    let mut b = filled::<524544>();
     open(rt, 4, arity, 64, &mut b)?;
     lowest(rt, &b)?;
     lowest_at(rt, &mut b, 0)?;
@@ -371,7 +375,7 @@ fn far_in_the_ring_on(rt: &impl Print, b: &mut [u8]) -> io::Result<()> {
 }
 
 fn far_in_the_ring(rt: &impl Print) -> io::Result<()> {
-    let mut b = [165u8; 524544];
+    let mut b = filled::<524544>();
     far_in_the_ring_on(rt, &mut b)
 }
 
@@ -389,7 +393,7 @@ fn last_leaf_on(rt: &impl Print, b: &mut [u8]) -> io::Result<()> {
 }
 
 fn last_leaf(rt: &impl Print) -> io::Result<()> {
-    let mut b = [165u8; 524736];
+    let mut b = filled::<524736>();
     last_leaf_on(rt, &mut b)
 }
 
@@ -560,7 +564,7 @@ fn drawn(
     seed: u32,
     count: u32,
 ) -> io::Result<()> {
-    let mut b = [165u8; 540672];
+    let mut b = filled::<540672>();
     drawn_on(rt, &mut b, n, arity, width, span, seed, count)
 }
 
