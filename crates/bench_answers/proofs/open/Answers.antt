@@ -12,9 +12,9 @@ returns-then-text-lt-TEXT c = nothing_done _ _ _ (omega (arith, c.if-text-lt-TEX
 pub returns-in-Done : goal.returns-in-Done
 returns-in-Done c =
     let room : 6240 ≤ length c.args.text.now = omega (arith, c.if-text-lt-TEXT.false) in
-    opens_done room (goal.at.returns-in-Done c).After-open.«open».ensures c.in-Done.is
+    opens_done room c.«open».ensures c.in-Done.is
 
 pub returns-in-Refused : goal.returns-in-Refused
 returns-in-Refused c =
     let room : 6240 ≤ length c.args.text.now = omega (arith, c.if-text-lt-TEXT.false) in
-    opens_refused room (goal.at.returns-in-Refused c).After-open.«open».ensures _ c.in-Refused.is (no_line room c.refused.ensures c.print.ensures)
+    opens_refused room c.«open».ensures _ c.in-Refused.is (no_line room c.refused.ensures c.print.ensures)

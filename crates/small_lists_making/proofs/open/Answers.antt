@@ -7,4 +7,4 @@ use Rattle.small_lists_making.proofs.open.Goals as goal
 
 pub returns : goal.returns
 unfolding bench_plan plan_of pairs_of records_of record_bytes bytes_of
-returns c = (goal.at.returns c).After-open.«open».ensures
+returns c = c.«open».ensures

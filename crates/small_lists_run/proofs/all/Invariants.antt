@@ -6,7 +6,7 @@ use borrow.Author.Rules.{rules}
 use Rattle.small_lists_run.proofs.all.Given as goal
 
 abbrev pub invariant-loop-i : goal.invariant-loop-i
-invariant-loop-i l = (l.i ≤ 400) × (length l.b ≡ 57344)
+invariant-loop-i g l = (l.i ≤ 400) × (length l.b ≡ 57344)
 
 abbrev pub decreases-loop-i : goal.decreases-loop-i
-decreases-loop-i l = 400 - l.i
+decreases-loop-i g l = 400 - l.i
