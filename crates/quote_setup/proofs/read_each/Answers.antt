@@ -22,7 +22,7 @@ pub loop-s-preserved : goal.loop-s-preserved
 loop-s-preserved c =
     let post = c.post in
     let loop = c.loop-s in
-    (post.auto.0 ∙ loop.invariant.0, omega arith, omega arith, one_read post.result loop.s loop.invariant.1 loop.invariant.3 post.ensures c.in-Done.is)
+    (post.auto.b ∙ loop.invariant.0, omega arith, omega arith, one_read post.result loop.s loop.invariant.1 loop.invariant.3 post.ensures c.in-Done.is)
 
 pub shape_of-b : goal.shape_of-b
 shape_of-b c = c.loop-s.invariant.0

@@ -6,11 +6,5 @@ use Rattle.quote_setup.proofs.read_unasked.Goals as goal
 pub returns-then-read : goal.returns-then-read
 returns-then-read c = asked_for c.if-read.true
 
-pub read_each-requires : goal.read_each-requires
-read_each-requires c = search rules
-
-pub shape_of-b : goal.shape_of-b
-shape_of-b c = search rules
-
 pub returns : goal.returns
 returns c = unasked c.if-read.false c.read_each.ensures

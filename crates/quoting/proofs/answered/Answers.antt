@@ -3,9 +3,6 @@ use borrow.Author.Rules.{rules}
 use Rattle.quoting.proofs.Quoting.{answers_done, answers_stopped}
 use Rattle.quoting.proofs.answered.Goals as goal
 
-pub enum_told-1 : goal.enum_told-1
-enum_told-1 c = search rules
-
 pub returns-in-Done : goal.returns-in-Done
 returns-in-Done c = answers_done c.in-Done.is
 

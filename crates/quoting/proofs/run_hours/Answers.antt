@@ -14,19 +14,19 @@ pub shape_of-b-in_default : goal.shape_of-b-in_default
 shape_of-b-in_default c =
     let run-hour = c.run_hour-u in
     let loop = c.loop-hour in
-    run-hour.auto.0 ∙ loop.invariant.1
+    run-hour.auto.b ∙ loop.invariant.1
 
 pub shape_of-out-in_default : goal.shape_of-out-in_default
 shape_of-out-in_default c =
     let run-hour = c.run_hour-u in
     let loop = c.loop-hour in
-    run-hour.auto.1.1.0 ∙ loop.invariant.2
+    run-hour.auto.out ∙ loop.invariant.2
 
 pub shape_of-table-in_default : goal.shape_of-table-in_default
 shape_of-table-in_default c =
     let run-hour = c.run_hour-u in
     let loop = c.loop-hour in
-    run-hour.auto.1.1.1.0 ∙ loop.invariant.3
+    run-hour.auto.table ∙ loop.invariant.3
 
 pub returns-in_default : goal.returns-in_default
 returns-in_default c =
@@ -38,7 +38,7 @@ pub loop-hour-preserved : goal.loop-hour-preserved
 loop-hour-preserved c =
     let run-hour = c.run_hour-u in
     let loop = c.loop-hour in
-    (omega arith, run-hour.auto.0 ∙ loop.invariant.1, run-hour.auto.1.1.0 ∙ loop.invariant.2, run-hour.auto.1.1.1.0 ∙ loop.invariant.3, one_run loop.invariant.4 run-hour.ensures c.in-Done.is)
+    (omega arith, run-hour.auto.b ∙ loop.invariant.1, run-hour.auto.out ∙ loop.invariant.2, run-hour.auto.table ∙ loop.invariant.3, one_run loop.invariant.4 run-hour.ensures c.in-Done.is)
 
 pub shape_of-b : goal.shape_of-b
 shape_of-b c = c.loop-hour.invariant.1

@@ -26,7 +26,7 @@ pub shape_of-b-in-Refused : goal.shape_of-b-in-Refused
 shape_of-b-in-Refused c =
     let take-line = c.take_line in
     let loop = c.loop-from in
-    take-line.auto.0 ∙ loop.invariant.0
+    take-line.auto.b ∙ loop.invariant.0
 
 pub returns-in-Refused : goal.returns-in-Refused
 returns-in-Refused c =
@@ -40,7 +40,7 @@ pub loop-from-smaller : goal.loop-from-smaller
 loop-from-smaller c =
     let loop-test = c.loop-from-test in
     let line-end = c.line_end-end in
-    let on = later loop-test.true line-end.ensures in let next = c.after_Line.ensures in omega (arith, on, next)
+    let on = later loop-test.true line-end.ensures in let next = c.after_line-from.ensures in omega (arith, on, next)
 
 pub loop-from-preserved : goal.loop-from-preserved
 loop-from-preserved c =
@@ -48,8 +48,7 @@ loop-from-preserved c =
     let loop-test = c.loop-from-test in
     let line-end = c.line_end-end in
     let take-line = c.take_line in
-    let d = c.d-1 in
-    let begun = line_on loop.invariant.1 loop-test.true line-end.ensures take-line.ensures d.given.1 in (take-line.auto.0 ∙ loop.invariant.0, rw c.after_Line.ensures begun)
+    let begun = line_on loop.invariant.1 loop-test.true line-end.ensures take-line.ensures c.in-On.is in (take-line.auto.b ∙ loop.invariant.0, rw c.after_line-from.ensures begun)
 
 pub shape_of-b : goal.shape_of-b
 shape_of-b c = c.loop-from.invariant.0
