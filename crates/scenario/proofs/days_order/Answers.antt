@@ -3,7 +3,6 @@ use borrow.Author.Rules.{rules}
 use mathlib.Core.Path.{refl}
 use mathlib.Core.List.{[]}
 use native.Mathlib.Omega.{arith}
-use Rattle.text_reading.proofs.Cases.{absent}
 use Rattle.text_reading.proofs.Chains.{end, no_last, with_last}
 use Rattle.scenario.specs.declared.Order.TheVariants.{Days}
 use Rattle.scenario.proofs.Taking.{takes_numbers, refuses_days, other_days}

@@ -2,7 +2,6 @@
 use borrow.Author.Rules.{rules}
 use mathlib.Core.Path.{refl}
 use mathlib.Core.List.{[], ◌∷◌}
-use Rattle.text_reading.proofs.Cases.{absent}
 use Rattle.text_reading.proofs.Chains.{end, more, no_next, no_last, with_last}
 use Rattle.scenario.specs.declared.Order.TheVariants.{Read}
 use Rattle.scenario.proofs.Taking.{takes_numbers, refuses_read}
