@@ -39,6 +39,7 @@ late_out c n (x ∷ xs) a = go (which x.number n) (late_out c n xs a.1)
 
 -- no other event has the number of x
 number_late : (c : ℕ) (x : Event) (xs : List Event) → Memᴰ x xs → Numbered xs → c ≤ x.time → All (λ y. y.number ≡ x.number → c ≤ y.time) xs
+number_late c x [] m d l = elim m [ ]
 number_late c x (y ∷ xs) (Memᴰ.head q) d l =
     (λ _. subst (λ z. c ≤ z.time) q l, all_map (λ z n k. absurd (n (ap (λ (v : Event). v.number) (sym q) ∙ sym k))) xs d.0)
 number_late c x (y ∷ xs) (Memᴰ.tail m) d l = (λ k. absurd (all_in (λ z. y.number ≢ z.number) m d.0 k), number_late c x xs m d.1 l)
