@@ -1,4 +1,0 @@
-pub mod Hours
-pub mod Tenths
-pub mod Rounds
-pub mod Heights
