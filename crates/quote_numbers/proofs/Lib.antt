@@ -1,0 +1,3 @@
+pub mod Rounding
+pub mod Counting
+pub mod Heights

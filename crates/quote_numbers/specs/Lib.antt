@@ -1,0 +1,4 @@
+pub mod Hours
+pub mod Tenths
+pub mod Rounds
+pub mod Heights
