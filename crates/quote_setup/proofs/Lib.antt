@@ -1,2 +1,0 @@
-pub mod ReadingsPosted
-pub mod SettingUp

@@ -1,3 +1,0 @@
-pub mod PostsFed
-pub mod Hours
-pub mod Quoting

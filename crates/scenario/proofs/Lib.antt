@@ -1,4 +1,0 @@
-pub mod Forms
-pub mod Taking
-pub mod Lines
-pub mod OneList

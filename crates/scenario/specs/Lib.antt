@@ -1,3 +1,0 @@
-pub mod Orders
-pub mod Promises
-pub mod Scenario

@@ -1,4 +1,0 @@
-pub mod Posts
-pub mod FirstLines
-pub mod OrdersTaken
-pub mod LinesTaken
