@@ -1,0 +1,2 @@
+pub mod ReadingsPosted
+pub mod SettingUp

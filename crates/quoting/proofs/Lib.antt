@@ -1,0 +1,3 @@
+pub mod PostsFed
+pub mod Hours
+pub mod Quoting

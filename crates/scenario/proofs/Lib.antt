@@ -1,0 +1,4 @@
+pub mod Forms
+pub mod Taking
+pub mod Lines
+pub mod OneList

@@ -1,0 +1,4 @@
+pub mod Posts
+pub mod FirstLines
+pub mod OrdersTaken
+pub mod LinesTaken
