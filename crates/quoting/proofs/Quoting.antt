@@ -5,13 +5,10 @@ use Prim.Native.Nat.{ℕ, ◌*◌, ◌≤◌, ◌<◌}
 use native.Mathlib.Omega.{arith}
 use lib.ListN.{length}
 use mathlib.Core.Logic.{inl, inr}
-use types.Run.{OneOf}
-use denote.Enum.Declared.{tag_of}
 use Rattle.refusal.specs.declared.Refusal.{Refusal}
 use Rattle.engine_answers.specs.declared.OpenAnswer.TheVariants as O
 use Rattle.engine_answers.specs.declared.UntilAnswer.{UntilAnswer}
 use Rattle.engine_answers.specs.declared.UntilAnswer.TheVariants as U
-use Rattle.engine_answers.specs.contracts.UntilAnswer as T
 use Rattle.figure.specs.Figure.{StandsAt}
 use Rattle.plan_format.specs.Line.{line_of}
 use Rattle.scenario.specs.declared.Order.{Order}
@@ -162,8 +159,8 @@ module _ {plan text xs ys : List ℕ} {a : SetUpAnswer} (S : SetsUp plan text xs
 pub answers_done : {u : UntilAnswer} {d : ℕ} → u ≡ U.Done → Concludes u d (Q.Done d)
 answers_done e = record { done = λ _. refl; stopped = λ n. absurd (n e) }
 
-pub answers_stopped : (u : UntilAnswer) {d : ℕ} → OneOf (1 ∷ 2 ∷ 3 ∷ []) (tag_of T.the_type u) → Concludes u d (Q.Stopped u)
-answers_stopped u o = record { done = λ e. absurd (not_done u o e); stopped = λ _. refl }
+pub answers_stopped : {u : UntilAnswer} {d : ℕ} → (u ≡ U.Done → ⊥) → Concludes u d (Q.Stopped u)
+answers_stopped n = record { done = λ e. absurd (n e); stopped = λ _. refl }
 
 pub short_table : {plan text xs os ts : List ℕ} → length ts < 17568 → Quotes plan text xs os ts Q.Short xs os ts
 short_table l = record {

@@ -5,7 +5,7 @@ use native.Mathlib.Omega.{arith}
 use Rattle.quote_report.proofs.put_stations.Goals as goal
 
 pub overflow_add-s : goal.overflow_add-s
-overflow_add-s c = omega arith
+overflow_add-s g c = omega arith
 
 pub loop-s-smaller : goal.loop-s-smaller
-loop-s-smaller c = omega arith
+loop-s-smaller g c = omega arith

@@ -5,7 +5,7 @@ use native.Mathlib.Omega.{arith}
 use Rattle.quote_report.proofs.put_stations.Given as goal
 
 abbrev pub invariant-loop-s : goal.invariant-loop-s
-invariant-loop-s l = Unit {0}
+invariant-loop-s g l = Unit {0}
 
 abbrev pub decreases-loop-s : goal.decreases-loop-s
-decreases-loop-s l = l.stations - l.s
+decreases-loop-s g l = l.stations - l.s

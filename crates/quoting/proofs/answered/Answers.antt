@@ -7,4 +7,4 @@ pub returns-in-Done : goal.returns-in-Done
 returns-in-Done c = answers_done c.in-Done.is
 
 pub returns-in_default : goal.returns-in_default
-returns-in_default c = answers_stopped _ c.in_default.keys2
+returns-in_default c = answers_stopped c.in_default.not-Done

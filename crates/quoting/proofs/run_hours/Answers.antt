@@ -4,7 +4,7 @@ use Prim.Native.Nat.{◌-◌, ◌≤◌}
 use native.Mathlib.Omega.{arith}
 use borrow.Author.Rules.{rules}
 use lib.ListN.{length}
-use Rattle.quoting.proofs.Hours.{not_done, HoursRun, none_run, one_run, not_run, all_run}
+use Rattle.quoting.proofs.Hours.{HoursRun, none_run, one_run, not_run, all_run}
 use Rattle.quoting.proofs.run_hours.Goals as goal
 
 pub run_hour-u-requires : goal.run_hour-u-requires
@@ -32,7 +32,7 @@ pub returns-in_default : goal.returns-in_default
 returns-in_default g c =
     let loop = c.loop-hour in
     let run-hour = c.run_hour-u in
-    not_run loop.invariant.4 run-hour.ensures (omega arith) (not_done _ c.in_default.keys2)
+    not_run loop.invariant.4 run-hour.ensures (omega arith) c.in_default.not-Done
 
 pub loop-hour-preserved : goal.loop-hour-preserved
 loop-hour-preserved g c =
