@@ -123,7 +123,7 @@ def calls():
         if not groups or groups[-1][0] != name:
             groups.append([name, 0])
         groups[-1][1] += len(parts(line))
-    return "".join('    ask(b"%s.bin", %d);\n' % (name, lines) for name, lines in groups)
+    return "".join('ask(rt, b"%s.bin", %d)\n' % (name, lines) for name, lines in groups)
 
 
 def written():
@@ -160,7 +160,7 @@ def main():
         elif open(path, "rb").read() != content:
             sys.exit(name + " differs")
     with open(os.path.join(CRATES, "star_tariff_test/src/main.rt")) as f:
-        if "".join(line for line in f if line.startswith('    ask(b"')) != calls():
+        if re.findall(r'ask\(rt, b"[^"]*", \d+\)', f.read()) != calls().split("\n")[:-1]:
             sys.exit("star_tariff_test makes other calls")
 
 
