@@ -2,7 +2,7 @@
 use mathlib.Core.Path.{◌≡◌, refl, sym, ap, subst, ◌∙◌}
 use mathlib.Core.Logic.{◌⊎◌, inl, inr}
 use mathlib.Core.List.{List, [], ◌∷◌, ◌++◌, append_assoc, append-nil}
-use Prim.Native.Nat.{ℕ, ◌+◌, ◌≤◌, ◌<◌}
+use Prim.Native.Nat.{ℕ, zero, suc, ◌+◌, ◌≤◌, ◌<◌}
 use native.Mathlib.Omega.{arith}
 use native.Mathlib.Numerals.{add-one}
 use lib.ListN.{length, get_or, set, take, length-append, length-set, length-take}
@@ -81,18 +81,32 @@ module _ {xs input line : List ℕ} {len : ℕ} {ys : List ℕ} {b : ℕ} (n : b
   }
 
 -- the run ends after that line
-pub stops : {xs line : List ℕ} {len : ℕ} {ys : List ℕ} (input read : List ℕ) → Console xs (input ++ read) line len ys → Stopped xs input ys
-stops input read C = record { read = read; printed = C.printed; rest = C.rest; answers = inr C.fed }
-
--- .. as it does after more input
-pub stops_later : {xs ys : List ℕ} (input us : List ℕ) → Stopped xs (input ++ us) ys → Stopped xs input ys
-stops_later {xs} {ys} input us S = record {
-  read = us ++ S.read;
-  printed = S.printed;
-  rest = S.rest;
-  answers =
-      subst (λ (l : List ℕ). Ended xs l ys S.printed ⊎ Consumed xs l S.rest ys S.printed) (append_assoc input us S.read) S.answers;
+pub stops : {xs line : List ℕ} {len : ℕ} {ys : List ℕ} (input : List ℕ) (b : ℕ) → Console xs (input ++ b ∷ []) line len ys → Stopped xs input (b ∷ []) ys
+stops {xs} {line} {len} {ys} input b C = record {
+  count = 1;
+  printed = C.printed;
+  rest = C.rest;
+  answers = inr (subst (λ (l : List ℕ). Consumed xs (input ++ l) C.rest ys C.printed) (sym (take_all 1 (b ∷ []) (omega arith))) C.fed);
 }
+
+-- .. as it does after the bytes before
+module _ (input : List ℕ) (i : ℕ) (h : i < length input) where
+  front : (k : ℕ) → (n : ℕ) × (take n input ≡ take i input ++ take k (get_or input i 0 ∷ []))
+  front zero = (i, sym (append-nil (take i input)))
+  front (suc k) =
+      (i + 1, next_byte input i h ∙ ap (λ (l : List ℕ). take i input ++ l) (sym (take_all (suc k) (get_or input i 0 ∷ []) (omega arith))))
+
+  pub stops_later : {xs ys : List ℕ} (before : List ℕ) → Stopped xs (before ++ take i input) (get_or input i 0 ∷ []) ys → Stopped xs before input ys
+  stops_later {xs} {ys} before S =
+      let (n, e) = front S.count in
+      record {
+        count = n;
+        printed = S.printed;
+        rest = S.rest;
+        answers =
+            subst (λ (l : List ℕ). Ended xs l ys S.printed ⊎ Consumed xs l S.rest ys S.printed)
+            (append_assoc before (take i input) (take S.count (get_or input i 0 ∷ [])) ∙ ap (λ (l : List ℕ). before ++ l) (sym e)) S.answers;
+      }
 
 pub room_after : (line : List ℕ) (len b : ℕ) → len < length line → len + 1 ≤ length (set line len b)
 room_after line len b l = omega (arith, l, length-set line len b)
@@ -142,9 +156,9 @@ ends_last {xs} {input} {line} {len} {ys} {zs} room h P C =
     ends_rest C.rest (omega (arith, h, C.unended.count, length-take (length line) C.rest)) C.fed (answered room C.unended P)
 
 -- .. and the run with it
-pub last_stops : {xs input ys : List ℕ} → Last xs input ys → Stopped xs input ys
+pub last_stops : {xs input ys : List ℕ} → Last xs input ys → Stopped xs input [] ys
 last_stops {xs} {input} {ys} L = record {
-  read = [];
+  count = 0;
   printed = L.printed;
   rest = [];
   answers = inl (subst (λ (l : List ℕ). Ended xs l ys L.printed) (sym (append-nil input)) L.ended);
@@ -172,10 +186,10 @@ module _ {xs line : List ℕ} {len : ℕ} {ys : List ℕ} (line' zs : List ℕ) 
         record { input = M.read; printed = l.printed; rest = []; answers = inl l.ended }
 
 pub stopped : {xs line : List ℕ} {len : ℕ} {ys zs : List ℕ} (M : More xs [] line len ys)
-    → ((us input : List ℕ) → Console us input line len ys → Stopped us input zs) → AnswersAll xs zs
+    → ((us input : List ℕ) → Console us input line len ys → (bytes : List ℕ) × Stopped us input bytes zs) → AnswersAll xs zs
 stopped {xs} M on =
-    let s : Stopped xs M.read _ = on xs M.read M.console in
-    record { input = M.read ++ s.read; printed = s.printed; rest = s.rest; answers = s.answers }
+    let (bytes, s) = on xs M.read M.console in
+    record { input = M.read ++ take s.count bytes; printed = s.printed; rest = s.rest; answers = s.answers }
 
 pub within_some : (r : Read) (line : List ℕ) (n : ℕ) → r ≡ Some n → Within r line → n ≤ length line
 within_some r line n e w = subst (λ (s : Read). Within s line) e w

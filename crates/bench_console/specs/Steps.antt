@@ -30,25 +30,27 @@ pub record Last (xs input ys : List ℕ) : Type 0 where
   pub printed : List ℕ
   pub ended : Ended xs input ys printed
 
--- what could not be printed ends the run: all lines of the input so far are answered, the last one, which has not ended, too or not yet
-pub record Stopped (xs input ys : List ℕ) : Type 0 where
-  pub read : List ℕ
+-- what could not be printed ends the run, after some of those bytes: all lines of the input so far are answered, the last one, which has not ended, too
+-- or not yet
+pub record Stopped (xs input bytes ys : List ℕ) : Type 0 where
+  pub count : ℕ
   pub printed : List ℕ
   pub rest : List ℕ
-  pub answers : Ended xs (input ++ read) ys printed ⊎ Consumed xs (input ++ read) rest ys printed
+  pub answers : Ended xs (input ++ take count bytes) ys printed ⊎ Consumed xs (input ++ take count bytes) rest ys printed
 
 -- those bytes are taken, or what could not be printed ends the run
 abbrev pub Taken : {E : Type 0} → List ℕ → List ℕ → List ℕ → List ℕ → Result ℕ E → List ℕ → Type 0
-Taken xs input bytes line r ys = MatchResult r (λ len. Console xs (input ++ bytes) line len ys) (λ _. Stopped xs input ys)
+Taken xs input bytes line r ys = MatchResult r (λ len. Console xs (input ++ bytes) line len ys) (λ _. Stopped xs input bytes ys)
 
 -- a read gives more input, or says that it has ended
 abbrev pub IsReadOn : List ℕ → List ℕ → List ℕ → Read → List ℕ → Type 0
 IsReadOn xs input line (Some len) ys = More xs input line len ys
 IsReadOn xs input line End ys = Last xs input ys
 
--- .. or what could not be printed ends the run
+-- .. or what could not be printed ends the run, after some of the bytes that it gives
 abbrev pub ReadOn : {E : Type 0} → List ℕ → List ℕ → List ℕ → Result Read E → List ℕ → Type 0
-ReadOn xs input line r ys = MatchResult r (λ read. IsReadOn xs input line read ys) (λ _. Stopped xs input ys)
+ReadOn xs input line r ys = MatchResult r (λ read. IsReadOn xs input line read ys)
+    (λ _. (bytes : List ℕ) × Stopped xs input bytes ys)
 
 -- the line that has not ended is no longer than the line buffer
 abbrev pub Within : Read → List ℕ → Type 0

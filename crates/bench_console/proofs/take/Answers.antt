@@ -1,6 +1,4 @@
 -- Byte 10 ends the line; any other is put after it where there is room.
-use borrow.Author.Rules.{rules}
-use mathlib.Core.List.{[], ◌∷◌}
 use Rattle.std.proofs.lemmas.Result.{MatchResult-from_err}
 use Rattle.bench_console.proofs.Feeding.{feed_end, feed_byte, feed_over, stops}
 use Rattle.bench_console.proofs.take.Goals as goal
@@ -8,7 +6,7 @@ use Rattle.bench_console.proofs.take.Goals as goal
 pub returns-in_err-answer-clause-fed : goal.returns-in_err-answer-clause-fed
 returns-in_err-answer-clause-fed g c =
     λ xs input C. MatchResult-from_err c.from_residual.result _ _ c.from_residual.ensures.0
-    (λ _. stops input (c.args.byte ∷ []) (feed_end c.if-byte-eq10.true c.requires.1 c.answer.ensures C))
+    (λ _. stops input c.args.byte (feed_end c.if-byte-eq10.true c.requires.1 c.answer.ensures C))
 
 pub returns-then-byte-eq10-clause-fed : goal.returns-then-byte-eq10-clause-fed
 returns-then-byte-eq10-clause-fed g c =

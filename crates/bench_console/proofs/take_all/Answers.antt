@@ -1,5 +1,5 @@
 -- One byte a turn; both buffers keep their lengths.
-use Rattle.std.proofs.Common.{take}
+use native.Mathlib.Omega.{arith}
 use Rattle.std.proofs.lemmas.Result.{MatchResult-from_err}
 use Rattle.bench_console.proofs.Feeding.{stops_later}
 use Rattle.bench_console.proofs.take_all.Goals as goal
@@ -7,4 +7,4 @@ use Rattle.bench_console.proofs.take_all.Goals as goal
 pub returns-in_err-at-clause-fed : goal.returns-in_err-at-clause-fed
 returns-in_err-at-clause-fed g c =
     λ xs before C. MatchResult-from_err c.from_residual.result _ _ c.from_residual.ensures.0
-    (λ _. stops_later before (take c.loop-i.i c.args.input.now) (c.in_err-at.ensures.fed xs _ (c.loop-i.invariant.4 xs before C)))
+    (λ _. stops_later c.args.input.now c.loop-i.i (omega arith) before (c.in_err-at.ensures.fed xs _ (c.loop-i.invariant.4 xs before C)))
