@@ -13,6 +13,6 @@ pub record ReadsLine (xs : List ℕ) (r : ℕ) (ys : List ℕ) : Type 0 where
   pub unended : (i : ℕ) → i < r → get_or ys i 0 ≢ 10
   pub kept : drop r ys ≡ drop r xs
 
--- of the first n bytes of a text, which it has, the first k are written
+-- of the first n bytes of a text, which it has, the first k are written, not all
 abbrev pub WritesFront : Option (List ℕ) → Option (List ℕ) → ℕ → List ℕ → Type 0
-WritesFront old new n text = (n ≤ length text) × ((k : ℕ) × (k ≤ n) × Appends old new (take k text))
+WritesFront old new n text = (n ≤ length text) × ((k : ℕ) × (k < n) × Appends old new (take k text))
