@@ -24,11 +24,14 @@ pub fn read(b: &[u8], at: u32) -> Event
 {
     let from = at as usize;
     Event {
-        time: words::load64(b, from),
-        target: words::load16(b, from + 16),
-        source: words::load16(b, from + 18),
-        number: words::load32(b, from + 8),
-        matter: matter(words::load32(b, from + 20), words::load32(b, from + 12)),
+        time: words::load::<u64>(b, from),
+        target: words::load::<u16>(b, from + 16),
+        source: words::load::<u16>(b, from + 18),
+        number: words::load::<u32>(b, from + 8),
+        matter: matter(
+            words::load::<u32>(b, from + 20),
+            words::load::<u32>(b, from + 12),
+        ),
     }
 }
 
@@ -38,10 +41,10 @@ pub fn write(b: &mut [u8], at: u32, e: Event)
 {
     let from = at as usize;
     let m = e.matter;
-    words::store64(b, from, e.time);
-    words::store32(b, from + 8, e.number);
-    words::store32(b, from + 12, line::value_of(m));
-    words::store16(b, from + 16, e.target);
-    words::store16(b, from + 18, e.source);
-    words::store32(b, from + 20, line::kind_of(m));
+    words::store::<u64>(b, from, e.time);
+    words::store::<u32>(b, from + 8, e.number);
+    words::store::<u32>(b, from + 12, line::value_of(m));
+    words::store::<u16>(b, from + 16, e.target);
+    words::store::<u16>(b, from + 18, e.source);
+    words::store::<u32>(b, from + 20, line::kind_of(m));
 }

@@ -149,7 +149,7 @@ module _ {E : Type 0} (k : E → ℕ) (R : E → E → Bool) (W : Weak R) where
 
 -- ---- the event order
 
-ltb_is : (m n : ℕ) → ltb m n ≡ lex m n false
+pub ltb_is : (m n : ℕ) → ltb m n ≡ lex m n false
 ltb_is m n = go (tri m n)
   where
     isl : {o : Ordering} → compare (suc m) n ≡ o → ltb m n ≡ is_le o

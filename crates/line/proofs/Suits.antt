@@ -6,13 +6,13 @@ use native.Mathlib.Omega.{arith}
 use borrow.Author.Tests.{ltb-true, lt-ltb, leb-true, le-leb, eqb-true}
 use lib.Arith.{digits_mod}
 use lib.Dec.{eqb, ltb, leb}
+use Rattle.std.specs.Prelude.{Ok, Err}
 use Rattle.refusal.specs.Tests.{largest}
 use Rattle.refusal.specs.declared.Refusal.TheVariants as R
 use Rattle.line.specs.declared.Event.{Event}
 use Rattle.line.specs.declared.Config.{Config}
 use Rattle.line.specs.declared.Matter.{Matter}
 use Rattle.line.specs.declared.Matter.TheVariants.{Read, Frame, Level}
-use Rattle.line.specs.declared.Meant.TheVariants.{Means, Refused}
 use Rattle.line.specs.declared.State.{State}
 use Rattle.line.specs.Matter.{suited, frame_of, matter_of, kind_of, value_of, Suits}
 use Rattle.line.specs.Order.{All}
@@ -32,16 +32,16 @@ value_parts origin repeats h =
 
 -- ---- which matters suit
 
-means : (v : Bool) {a m : Matter} → suited v a ≡ Means m → (v ≡ true) × (a ≡ m)
+means : (v : Bool) {a m : Matter} → suited v a ≡ Ok m → (v ≡ true) × (a ≡ m)
 means true e = (refl, cc)
 means false e = let z : ◌≡◌ {A = ℕ} 0 1 = cc in absurd (omega arith)
 
 -- the tests of a frame's value, where it means one
-frame_means : (n value : ℕ) {m : Matter} → frame_of n value ≡ Means m → (value / 256 ≤ 3) × (value % 256 < n) × (Frame (value % 256) (value / 256) ≡ m)
+frame_means : (n value : ℕ) {m : Matter} → frame_of n value ≡ Ok m → (value / 256 ≤ 3) × (value % 256 < n) × (Frame (value % 256) (value / 256) ≡ m)
 unfolding frame_of
 frame_means n value {m} e = go (leb (value / 256) 3) (ltb (value % 256) n) refl refl e
   where
-    go : (u v : Bool) → leb (value / 256) 3 ≡ u → ltb (value % 256) n ≡ v → suited (u && v) (Frame (value % 256) (value / 256)) ≡ Means m
+    go : (u v : Bool) → leb (value / 256) 3 ≡ u → ltb (value % 256) n ≡ v → suited (u && v) (Frame (value % 256) (value / 256)) ≡ Ok m
         → (value / 256 ≤ 3) × (value % 256 < n) × (Frame (value % 256) (value / 256) ≡ m)
     go true true i j k = (leb-true _ 3 i, ltb-true _ n j, (means true k).1)
     go true false i j k = let z : ◌≡◌ {A = ℕ} 0 1 = cc in absurd (omega arith)
@@ -71,19 +71,19 @@ suits_fit n (Level mm) h e = omega (arith, leb-true mm largest (means (leb mm la
 
 -- ---- a kind and a value mean a matter of that kind and value, so one that suits
 
-means_back : (n kind value : ℕ) (m : Matter) → matter_of n kind value ≡ Means m → (kind_of m ≡ kind) × (value_of m ≡ value)
+means_back : (n kind value : ℕ) (m : Matter) → matter_of n kind value ≡ Ok m → (kind_of m ≡ kind) × (value_of m ≡ value)
 unfolding matter_of
 means_back n kind value m e = go (eqb kind 1) (eqb kind 2) (eqb kind 3) refl refl refl e
   where
     go : (a b d : Bool) → eqb kind 1 ≡ a → eqb kind 2 ≡ b → eqb kind 3 ≡ d
-        → cond a (suited (eqb value 0) Read) (cond b (frame_of n value) (cond d (suited (leb value largest) (Level value)) (Refused R.Matter))) ≡ Means m
+        → cond a (suited (eqb value 0) Read) (cond b (frame_of n value) (cond d (suited (leb value largest) (Level value)) (Err R.Matter))) ≡ Ok m
         → (kind_of m ≡ kind) × (value_of m ≡ value)
     go true b d i j k e = let f = means (eqb value 0) e in rw (← f.1) (sym (eqb-true kind 1 i), sym (eqb-true value 0 f.0))
     go false true d i j k e = let f = frame_means n value e in rw (← f.2) (sym (eqb-true kind 2 j), omega arith)
     go false false true i j k e = let f = means (leb value largest) e in rw (← f.1) (sym (eqb-true kind 3 k), refl)
     go false false false i j k e = let z : ◌≡◌ {A = ℕ} 0 1 = cc in absurd (omega arith)
 
-pub means_suits : (n kind value : ℕ) (m : Matter) → matter_of n kind value ≡ Means m → Suits n m
+pub means_suits : (n kind value : ℕ) (m : Matter) → matter_of n kind value ≡ Ok m → Suits n m
 means_suits n kind value m e = let b = means_back n kind value m e in rw (b.0, b.1) e
 
 -- ---- what an event that suits sends suits

@@ -7,15 +7,13 @@ use Prim.Native.Nat.{ℕ, suc, ◌+◌, ◌≤◌, ◌<◌}
 use native.Mathlib.Omega.{arith}
 use borrow.Author.Tests.{le-ltb, ltb-false, le-leb, lt-leb}
 use lib.Dec.{ltb, leb, eqb}
+use Rattle.std.specs.Prelude.{None, Some, Option}
 use Rattle.refusal.specs.Tests.{horizon, largest, passes}
 use Rattle.line.specs.declared.Config.{Config}
 use Rattle.line.specs.declared.Event.{Event}
 use Rattle.line.specs.declared.Matter.{Matter}
 use Rattle.line.specs.declared.Matter.TheVariants.{Frame}
-use Rattle.line.specs.declared.Sending.TheVariants.{Nothing}
 use Rattle.line.specs.declared.Effect.{Effect}
-use Rattle.line.specs.declared.Ran.{Ran}
-use Rattle.line.specs.declared.Ran.TheVariants.{Done}
 use Rattle.line.specs.Station.{Outcome, silent, send, repeat, pass}
 use Rattle.line.specs.Answer.{counts_pass, Counted, within, refused_by, over, counted, sends_of, said}
 use Rattle.line.proofs.Either.{either}
@@ -59,10 +57,10 @@ ahead l (within o) = within (record { after = o.after; sends = l ++ o.sends })
 ahead l (refused_by n) = refused_by n
 
 -- an answer for o that has no second send
-abbrev pub One : Ran → Outcome → Type 0
-One r o = (said r ≡ counted o) × ((e : Effect) → r ≡ Done e → e.second ≡ Nothing)
+abbrev pub One : Option Effect → Outcome → Type 0
+One r o = (said r ≡ counted o) × ((e : Effect) → r ≡ Some e → e.second ≡ None)
 
-pub single : (r : Ran) (o : Outcome) → One r o → (e : Effect) → r ≡ Done e → within (record { after = e.state; sends = sends_of e.first }) ≡ counted o
+pub single : (r : Option Effect) (o : Outcome) → One r o → (e : Effect) → r ≡ Some e → within (record { after = e.state; sends = sends_of e.first }) ≡ counted o
 single r o p e h = ap (λ l. within (record { after = e.state; sends = l })) (sym (append-nil _) ∙ ap (λ x. sends_of e.first ++ sends_of x) (sym (p.1 e h))) ∙ (ap said (sym h) ∙ p.0)
 
 module _ (s u to : ℕ) (m : Matter) where
@@ -92,7 +90,7 @@ module _ (s u to : ℕ) (m : Matter) where
       go true = two (counts_pass (made s u to m o).after) _ _ refl
       go false = two (counts_pass o.after) _ _ (ap (λ l. within (record { after = o.after; sends = l })) (append-nil o.sends))
 
-  pub chain : (r : Ran) (o : Outcome) → One r o → (e : Effect) → r ≡ Done e → counted (send s u to m o) ≡ ahead (sends_of e.first) (counted (send s u to m (silent e.state)))
+  pub chain : (r : Option Effect) (o : Outcome) → One r o → (e : Effect) → r ≡ Some e → counted (send s u to m o) ≡ ahead (sends_of e.first) (counted (send s u to m (silent e.state)))
   chain r o p e h = rw (whole o _ (single r o p e h)) (onto _)
 
 -- the same where a frame may be repeated or passed on

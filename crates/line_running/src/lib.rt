@@ -1,31 +1,31 @@
-// Running an event: what it makes of its station's state, and what it sends.
+// Running an event: what it makes of its station's state, and what it sends; None where heard, lost or sent would pass 32 bits.
 
 #![tactic(auto)]
 
-ghost use Rattle.std.specs.Prelude.{◌≡◌, ◌+◌};
+ghost use Rattle.std.specs.Prelude.{◌≡◌, ◌+◌, Some, None};
 ghost use Rattle.generator.specs.Draw.{next_draw};
 ghost use Rattle.line.specs.Station.{silent as silentOf, send as sendOf, period as periodOf, drawn_state, lose, hear, run_read, repeat, pass, run_frame, run_at};
 ghost use Rattle.line.specs.Answer.{counted, said};
 
-use line::{Config, Effect, Event, Matter, Ran, Sending, State};
+use line::{Config, Effect, Event, Matter, State};
 use refusal::HORIZON;
 
 // An effect that sends nothing.
-fn silent(s: State) -> Ran
+fn silent(s: State) -> Option<Effect>
     ensures said { said result ≡ counted (silentOf s) }
-    ensures one { (e : Effect) → result ≡ Ran.Done e → e.second ≡ Sending.Nothing }
+    ensures one { (e : Effect) → result ≡ Some e → e.second ≡ None }
 {
-    Ran::Done(Effect {
+    Some(Effect {
         state: s,
-        first: Sending::Nothing,
-        second: Sending::Nothing,
+        first: None,
+        second: None,
     })
 }
 
 // An effect of one send, which is not made where it would come after the horizon.
-fn send(s: State, station: u16, time: u64, delay: u32, to: u16, m: Matter) -> Ran
+fn send(s: State, station: u16, time: u64, delay: u32, to: u16, m: Matter) -> Option<Effect>
     ensures said { said result ≡ counted (sendOf station (time + delay) to m (silentOf s)) }
-    ensures one { (e : Effect) → result ≡ Ran.Done e → e.second ≡ Sending.Nothing }
+    ensures one { (e : Effect) → result ≡ Some e → e.second ≡ None }
 {
     if HORIZON < time {
         return silent(s);
@@ -34,21 +34,21 @@ fn send(s: State, station: u16, time: u64, delay: u32, to: u16, m: Matter) -> Ra
         return silent(s);
     }
     if s.sent == 4294967295 {
-        return Ran::Over;
+        return None;
     }
-    Ran::Done(Effect {
+    Some(Effect {
         state: State {
             sent: s.sent + 1,
             ..s
         },
-        first: Sending::Sends(Event {
+        first: Some(Event {
             time: time + delay as u64,
             target: to,
             source: station,
             number: s.sent,
             matter: m,
         }),
-        second: Sending::Nothing,
+        second: None,
     })
 }
 
@@ -64,33 +64,26 @@ fn period(c: Config, s: State) -> u32
 }
 
 // A reading at a station.
-fn run_read(c: Config, s: State, station: u16, time: u64) -> Ran
+// Kept: a station's numbers c, its state s, its own number and the time go in one by one below, as the definitions of document 01 take them.
+fn run_read(c: Config, s: State, station: u16, time: u64) -> Option<Effect>
     ensures { said result ≡ counted (run_read c station time s) }
 {
     if station == 0 {
         return silent(s);
     }
-    let Ran::Done(read) = send(s, station, time, period(c, s), station, Matter::Read) else {
-        return Ran::Over;
-    };
-    let after = read.state;
-    let Ran::Done(frame) = send(
-        after,
+    let read = send(s, station, time, period(c, s), station, Matter::Read)?;
+    let frame = send(
+        read.state,
         station,
         time,
         c.hop,
         c.parent,
         Matter::Frame(station, 0),
-    ) else {
-        return Ran::Over;
-    };
-    let state = frame.state;
-    let first = read.first;
-    let second = frame.first;
-    Ran::Done(Effect {
-        state,
-        first,
-        second,
+    )?;
+    Some(Effect {
+        state: frame.state,
+        first: read.first,
+        second: frame.first,
     })
 }
 
@@ -103,12 +96,12 @@ fn run_lost(
     time: u64,
     origin: u16,
     repeats: u8,
-) -> Ran
+) -> Option<Effect>
     requires { draw ≡ next_draw s.draw }
     ensures { said result ≡ counted (repeat c station time origin repeats (silentOf (lose (drawn_state s)))) }
 {
     if s.lost == 4294967295 {
-        return Ran::Over;
+        return None;
     }
     let lost = State {
         draw,
@@ -130,12 +123,12 @@ fn run_lost(
 }
 
 // A frame that was heard goes to the parent, but at station 0, with no repeats made.
-fn run_heard(c: Config, s: State, draw: u32, station: u16, time: u64, origin: u16) -> Ran
+fn run_heard(c: Config, s: State, draw: u32, station: u16, time: u64, origin: u16) -> Option<Effect>
     requires { draw ≡ next_draw s.draw }
     ensures { said result ≡ counted (pass c station time origin (silentOf (hear time (drawn_state s)))) }
 {
     if s.heard == 4294967295 {
-        return Ran::Over;
+        return None;
     }
     let heard = State {
         draw,
@@ -159,7 +152,14 @@ fn run_heard(c: Config, s: State, draw: u32, station: u16, time: u64, origin: u1
 }
 
 // A frame at a station.
-fn run_frame(c: Config, s: State, station: u16, time: u64, origin: u16, repeats: u8) -> Ran
+fn run_frame(
+    c: Config,
+    s: State,
+    station: u16,
+    time: u64,
+    origin: u16,
+    repeats: u8,
+) -> Option<Effect>
     ensures { said result ≡ counted (run_frame c station time origin repeats s) }
 {
     let draw = generator::drawn(s.draw);
@@ -171,7 +171,7 @@ fn run_frame(c: Config, s: State, station: u16, time: u64, origin: u16, repeats:
 }
 
 // Running an event at its target, whose numbers are c and whose state is s.
-pub fn run_event(c: Config, s: State, e: Event) -> Ran
+pub fn run_event(c: Config, s: State, e: Event) -> Option<Effect>
     ensures { said result ≡ counted (run_at c s e) }
 {
     let m = e.matter;

@@ -10,24 +10,25 @@ ghost use Rattle.std.specs.Prelude.{◌≡◌};
 ghost use Rattle.rings.specs.Table.{next_of, prev_of, with_next, with_prev, empty_at, link_after, unlinked};
 
 // The node after node i.
+// Kept: next and prev, set_next and set_prev are pairs that differ in the two bytes between a node's links: one function would take the side from each call.
 pub fn next(b: &[u8], o: u32, i: u16) -> u16
     ensures { result ≡ next_of b.now o i }
 {
-    words::load16(b, o as usize + 4 * i as usize)
+    words::load::<u16>(b, o as usize + 4 * i as usize)
 }
 
 // The node before node i.
 pub fn prev(b: &[u8], o: u32, i: u16) -> u16
     ensures { result ≡ prev_of b.now o i }
 {
-    words::load16(b, o as usize + 4 * i as usize + 2)
+    words::load::<u16>(b, o as usize + 4 * i as usize + 2)
 }
 
 fn set_next(b: &mut [u8], o: u32, n: u16, i: u16, v: u16)
     ensures { b.new ≡ with_next b.old o n i v }
 {
     if i < n {
-        words::store16(b, o as usize + 4 * i as usize, v);
+        words::store::<u16>(b, o as usize + 4 * i as usize, v);
     }
 }
 
@@ -35,7 +36,7 @@ fn set_prev(b: &mut [u8], o: u32, n: u16, i: u16, v: u16)
     ensures { b.new ≡ with_prev b.old o n i v }
 {
     if i < n {
-        words::store16(b, o as usize + 4 * i as usize + 2, v);
+        words::store::<u16>(b, o as usize + 4 * i as usize + 2, v);
     }
 }
 

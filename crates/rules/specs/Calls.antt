@@ -1,10 +1,9 @@
 -- What each call does and answers (document 01, "Engine calls").
-use Rattle.std.specs.Prelude.{ℕ, suc, ◌*◌, ◌≡◌, List, ◌++◌, length, drop}
+use Rattle.std.specs.Prelude.{ℕ, suc, ◌*◌, ◌≡◌, List, ◌++◌, length, drop, Ok}
 use Rattle.calendar_ring.specs.WordsRead.{words_read}
 use Rattle.refusal.specs.Tests.{accepted, refused, judged}
 use Rattle.line.specs.declared.Event.{Event}
 use Rattle.line.specs.declared.Matter.{Matter}
-use Rattle.line.specs.declared.Meant.TheVariants.{Means}
 use Rattle.line.specs.declared.State.{State}
 use Rattle.line.specs.Event.{posted}
 use Rattle.line.specs.Matter.{matter_of}
@@ -52,7 +51,7 @@ pub data Answers (p : Plan) : Engine → Call → Answer → Engine → Type 0 w
   -- "Post adds an unrun event and answers its number"
   post : {e : Engine} {s t kind value : ℕ} {m : Matter} {q : Queue}
       → judged (checks p e (Post s t kind value)) ≡ accepted
-      → matter_of p.count kind value ≡ Means m
+      → matter_of p.count kind value ≡ Ok m
       → Does p (Add (post_of e.next s t m)) e.queue q
       → Answers p e (Post s t kind value) (Posted e.next (undone e.queue.held q.held))
       (after_post e q)

@@ -1,8 +1,8 @@
 -- Demand 3: what a list of calls feeds the plain machine, and what is held against it (document 01, "Plain machine").
-use Rattle.std.specs.Prelude.{ℕ, ◌+◌, ◌*◌, ◌≡◌, Bool, true, false, cond, ◌||◌, List, [], ◌∷◌, ◌++◌, eqb, length, take}
+use Rattle.std.specs.Prelude.{ℕ, ◌+◌, ◌*◌, ◌≡◌, Bool, true, false, cond, ◌||◌, List, [], ◌∷◌, ◌++◌, eqb, length, take, Ok, Err, Result}
+use Rattle.refusal.specs.declared.Refusal.{Refusal}
+use Rattle.line.specs.declared.Matter.{Matter}
 use Rattle.line.specs.declared.Event.{Event}
-use Rattle.line.specs.declared.Meant.{Meant}
-use Rattle.line.specs.declared.Meant.TheVariants.{Means, Refused as Unsuited}
 use Rattle.line.specs.declared.State.{State}
 use Rattle.line.specs.Matter.{matter_of}
 use Rattle.line.specs.Station.{Plan}
@@ -32,9 +32,9 @@ is_refused (Recorded st) = false
 
 -- ---- what the machine is fed
 
-abbrev pub posting : ℕ → ℕ → ℕ → Meant → List Event
-posting n s t (Means m) = post_of n s t m ∷ []
-posting n s t (Unsuited r) = []
+abbrev pub posting : ℕ → ℕ → ℕ → Result Matter Refusal → List Event
+posting n s t (Ok m) = post_of n s t m ∷ []
+posting n s t (Err r) = []
 
 -- the event of a call that is a post, with the number n
 unfoldable pub post_in : Plan → ℕ → Call → List Event

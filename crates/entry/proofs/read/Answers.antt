@@ -7,9 +7,9 @@ pub returns : goal.returns
 unfolding event_at
 returns c =
     λ i. record {
-      time = c.load64.ensures i;
-      target = c.load16.ensures i;
-      source = c.load16-2.ensures i;
-      number = c.load32.ensures i;
-      matter = (c.matter.ensures ∙ (λ j. matter_or (c.load32-2.ensures j) (c.load32-3.ensures j))) i;
+      time = c.load.ensures i;
+      target = c.load-2.ensures i;
+      source = c.load-3.ensures i;
+      number = c.load-4.ensures i;
+      matter = (c.matter.ensures ∙ (λ j. matter_or (c.load-5.ensures j) (c.load-6.ensures j))) i;
     }

@@ -9,7 +9,7 @@ pub returns : goal.returns
 unfolding put_event
 returns c =
     let at = c.args.at in
-    let one = c.store32.ensures ∙ ap (store_at 4 _ _) c.store64.ensures in
-    let two = c.store32-2.ensures ∙ (λ i. store_at 4 (at + 12) (c.value_of.ensures i) (one i)) in
-    let three = c.store16-2.ensures ∙ ap (store_at 2 _ _) (c.store16.ensures ∙ ap (store_at 2 _ _) two) in
-    c.store32-3.ensures ∙ (λ i. store_at 4 (at + 20) (c.kind_of.ensures i) (three i))
+    let one = c.store-2.ensures ∙ ap (store_at 4 _ _) c.store.ensures in
+    let two = c.store-3.ensures ∙ (λ i. store_at 4 (at + 12) (c.value_of.ensures i) (one i)) in
+    let three = c.store-5.ensures ∙ ap (store_at 2 _ _) (c.store-4.ensures ∙ ap (store_at 2 _ _) two) in
+    c.store-6.ensures ∙ (λ i. store_at 4 (at + 20) (c.kind_of.ensures i) (three i))

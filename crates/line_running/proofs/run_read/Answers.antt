@@ -10,18 +10,20 @@ pub returns-then-station-eq0 : goal.returns-then-station-eq0
 unfolding run_read
 returns-then-station-eq0 c = rw (eq-eqb _ 0 c.if-station-eq0.true) c.silent.ensures.said
 
-pub returns-in_default : goal.returns-in_default
+pub returns-in_err-read : goal.returns-in_err-read
 unfolding run_read
-returns-in_default c = rw (ne_eqb _ 0 c.if-station-eq0.false, ← c.period.ensures) (stays _ _ _ _ _ (ap said (sym c.in_default.is) ∙ c.send.ensures.said))
+returns-in_err-read c =
+    rw (c.from_residual.ensures, ne_eqb _ 0 c.if-station-eq0.false, ← c.period.ensures)
+    (stays _ _ _ _ _ (ap said (sym c.in_err-read.was) ∙ c.send.ensures.said))
 
-pub returns-in_default-send : goal.returns-in_default-send
+pub returns-in_err-frame : goal.returns-in_err-frame
 unfolding run_read
-returns-in_default-send c =
-    rw (ne_eqb _ 0 c.if-station-eq0.false, ← c.period.ensures, chain _ _ _ _ _ _ (c.send.ensures.said, c.send.ensures.one) _ c.in-Done.is)
-    (ap (ahead _) (ap said (sym c.in_default-send.is) ∙ c.send-2.ensures.said))
+returns-in_err-frame c =
+    rw (c.from_residual-in_err-frame.ensures, ne_eqb _ 0 c.if-station-eq0.false, ← c.period.ensures, chain _ _ _ _ _ _ (c.send.ensures.said, c.send.ensures.one) _ c.in_ok-read.was)
+    (ap (ahead _) (ap said (sym c.in_err-frame.was) ∙ c.send-2.ensures.said))
 
 pub returns : goal.returns
 unfolding run_read
 returns c =
-    rw (ne_eqb _ 0 c.if-station-eq0.false, ← c.period.ensures, chain _ _ _ _ _ _ (c.send.ensures.said, c.send.ensures.one) _ c.in-Done.is)
-    (ap (ahead _) (single _ _ (c.send-2.ensures.said, c.send-2.ensures.one) _ c.in-Done-send.is))
+    rw (ne_eqb _ 0 c.if-station-eq0.false, ← c.period.ensures, chain _ _ _ _ _ _ (c.send.ensures.said, c.send.ensures.one) _ c.in_ok-read.was)
+    (ap (ahead _) (single _ _ (c.send-2.ensures.said, c.send-2.ensures.one) _ c.in_ok-frame.was))

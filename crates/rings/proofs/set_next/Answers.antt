@@ -5,7 +5,7 @@ use Rattle.rings.proofs.set_next.Goals as goal
 
 pub returns-then-i-n : goal.returns-then-i-n
 unfolding with_next
-returns-then-i-n c = rw (lt-ltb _ _ c.if-i-n.true) c.store16.ensures
+returns-then-i-n c = rw (lt-ltb _ _ c.if-i-n.true) c.store.ensures
 
 pub returns-else-i-n : goal.returns-else-i-n
 unfolding with_next

@@ -6,11 +6,11 @@ use mathlib.Core.List.{List, [], ◌∷◌}
 use Prim.Native.Nat.{ℕ, suc, ◌+◌}
 use native.Mathlib.Omega.{arith}
 use lib.Dec.{eqb}
+use Rattle.std.specs.Prelude.{Ok, Err, Result}
+use Rattle.refusal.specs.declared.Refusal.{Refusal}
 use Rattle.refusal.specs.Tests.{Verdict, accepted, refused, judged}
 use Rattle.line.specs.declared.Event.{Event}
 use Rattle.line.specs.declared.Matter.{Matter}
-use Rattle.line.specs.declared.Meant.{Meant}
-use Rattle.line.specs.declared.Meant.TheVariants.{Means, Refused as Unsuited}
 use Rattle.line.specs.Event.{posted}
 use Rattle.line.specs.Matter.{matter_of, unsuited}
 use Rattle.line.specs.Station.{Plan, InRange}
@@ -90,9 +90,9 @@ module _ (p : Plan) (S : InRange p) (e : Engine) (posts : List Event) (gone log 
   unfolding post_step checks judged
   post_is s t kind value j = go (matter_of p.count kind value) refl
     where
-      go : (m : Meant) → matter_of p.count kind value ≡ m → Is (Post s t kind value) (post_step p e s t m)
-      go (Unsuited r) k = absurd (true≢false (sym (ap unsuited k) ∙ (not_holding _ 10 _ (not_holding _ 9 _ j).1).0))
-      go (Means m) k =
+      go : (m : Result Matter Refusal) → matter_of p.count kind value ≡ m → Is (Post s t kind value) (post_step p e s t m)
+      go (Err r) k = absurd (true≢false (sym (ap unsuited k) ∙ (not_holding _ 10 _ (not_holding _ 9 _ j).1).0))
+      go (Ok m) k =
           let d = can_add p S e.queue i.machine.waiting i.machine.states i.ok neat (post_of e.next s t m) in
           let f = post_fits s t kind value m j in
           post j k (subst (Does p (Add (post_of e.next s t m)) e.queue) (does_agree p d.1 neat f.0 f.1).0 d.1)

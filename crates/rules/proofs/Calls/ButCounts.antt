@@ -2,9 +2,10 @@
 use mathlib.Core.Path.{◌≡◌, refl, sym, ap, ◌∙◌}
 use mathlib.Core.List.{List, [], ◌∷◌, map}
 use Prim.Native.Nat.{ℕ}
+use Rattle.std.specs.Prelude.{Ok, Err, Result}
+use Rattle.refusal.specs.declared.Refusal.{Refusal}
 use Rattle.refusal.specs.Tests.{Verdict, accepted, refused, judged}
-use Rattle.line.specs.declared.Meant.{Meant}
-use Rattle.line.specs.declared.Meant.TheVariants.{Means, Refused as Unsuited}
+use Rattle.line.specs.declared.Matter.{Matter}
 use Rattle.line.specs.Matter.{matter_of}
 use Rattle.line.specs.Station.{Plan, InRange}
 use Rattle.rules.specs.Held.{Found, none, some, least_unrun, held_post}
@@ -54,10 +55,10 @@ module _ (p : Plan) (e : Engine) (a w : ℕ) where
       go accepted = h
       go (refused n) = (refl, refl)
 
-  same_post : (s t : ℕ) (m : Meant) → SameBut a w (post_step p e s t m) (post_step p (shaped a w e) s t m)
+  same_post : (s t : ℕ) (m : Result Matter Refusal) → SameBut a w (post_step p e s t m) (post_step p (shaped a w e) s t m)
   unfolding post_step
-  same_post s t (Means m) = (refl, refl)
-  same_post s t (Unsuited r) = (refl, refl)
+  same_post s t (Ok m) = (refl, refl)
+  same_post s t (Err r) = (refl, refl)
 
   same_retract : (l : Found) → SameBut a w (retract_step p e l) (retract_step p (shaped a w e) l)
   unfolding retract_step with

@@ -1,9 +1,10 @@
 -- The calls as functions: an answer and the engine after it, computed. `Answered` says that they are the rules'.
 use Prim.Native.Nat.{ℕ}
 use mathlib.Core.List.{List, [], ◌∷◌}
+use Rattle.std.specs.Prelude.{Ok, Err, Result}
+use Rattle.refusal.specs.declared.Refusal.{Refusal}
 use Rattle.refusal.specs.Tests.{Verdict, accepted, refused, judged}
-use Rattle.line.specs.declared.Meant.{Meant}
-use Rattle.line.specs.declared.Meant.TheVariants.{Means, Refused as Unsuited}
+use Rattle.line.specs.declared.Matter.{Matter}
 use Rattle.line.specs.Matter.{matter_of}
 use Rattle.line.specs.Station.{Plan}
 use Rattle.rules.specs.Held.{Held, unrun, ran, Queue, Found, none, some, least_unrun, undone, held_post, logged, record_of}
@@ -22,11 +23,11 @@ unfoldable pub settle : Verdict → Engine → Step → Step
 settle accepted e done = done
 settle (refused n) e done = record { answer = Refused n; engine = e }
 
-unfoldable pub post_step : Plan → Engine → ℕ → ℕ → Meant → Step
-post_step p e s t (Means m) =
+unfoldable pub post_step : Plan → Engine → ℕ → ℕ → Result Matter Refusal → Step
+post_step p e s t (Ok m) =
     let q : Queue = adding p e.queue (post_of e.next s t m) in
     record { answer = Posted e.next (undone e.queue.held q.held); engine = after_post e q }
-post_step p e s t (Unsuited r) = record { answer = Refused 10; engine = e }
+post_step p e s t (Err r) = record { answer = Refused 10; engine = e }
 
 unfoldable pub retract_step : Plan → Engine → Found → Step
 retract_step p e none = record { answer = Refused 13; engine = e }
