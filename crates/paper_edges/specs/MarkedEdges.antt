@@ -1,12 +1,11 @@
 -- The edges marked * in document 01 ("Edges"), as one table over the definitions of generator, line, calendar and plan.
-use Rattle.std.specs.Prelude.{◌≡◌, List, [], ℕ, suc, ◌≤◌, length}
+use Rattle.std.specs.Prelude.{◌≡◌, List, [], ℕ, suc, ◌≤◌, length, Ok}
 use Rattle.refusal.specs.Tests.{horizon, refused}
 use Rattle.generator.specs.Draw.{next_draw}
 use Rattle.line.specs.declared.Config.{Config}
 use Rattle.line.specs.declared.State.{State}
 use Rattle.line.specs.Station.{period, run_read, run_frame}
 use Rattle.calendar_ring.specs.Ring.{leaf_at, ring_end, leaf_for}
-use Rattle.plan_format.specs.declared.ReadAnswer.TheVariants.{Stations}
 use Rattle.plan_format.specs.Plan.{offset_of}
 use Rattle.plan_format.specs.Numbers.{read_says}
 use Rattle.plan_format.specs.Reading.{judging}
@@ -36,4 +35,4 @@ pub record Marked : Type 0 where
   pub ring_16384 : leaf_seen 16384 262144 ≡ leaf_at 16 0 0
   -- "No bytes: 1. One station: offset 10, 36 bytes at least."
   pub no_bytes : read_says (judging []) ≡ refused 1
-  pub one_station : (p : List ℕ) → judging p ≡ Stations 1 → (offset_of p 0 ≡ 10) × (36 ≤ length p)
+  pub one_station : (p : List ℕ) → judging p ≡ Ok 1 → (offset_of p 0 ≡ 10) × (36 ≤ length p)

@@ -8,10 +8,10 @@ use mathlib.Core.List.{List, [], ◌∷◌, ◌++◌, append_assoc}
 use lib.Dec.{lit<}
 use lib.ListN.{length, get_or, take, drop, replicate, length-append, length-drop}
 use lib.Seq.{drop-drop, drop_at, take_at, length-take-le}
+use Rattle.std.specs.Prelude.{Ok}
 use Rattle.words.proofs.Laws.{length_bytes}
 use Rattle.words.proofs.Bytes.{load_found}
 use Rattle.plan_format.specs.declared.Station.{Station}
-use Rattle.plan_format.specs.declared.ReadAnswer.TheVariants.{Stations}
 use Rattle.plan_format.specs.Plan.{count, offset_of, length_of, begins, config_at, padded, station_at, name_out}
 use Rattle.plan_format.specs.Reading.{judging}
 use Rattle.plan_format.specs.Typed.{Sized, AreSized}
@@ -154,7 +154,7 @@ module _ (ss : List Station) (w : Writable ss) where
   at_station k h = rw zero-add at (read_at (plan_of ss) 0 ss plan_read k h)
 
   -- the plan is accepted
-  pub written_accepted : judging (plan_of ss) ≡ Stations (length ss)
+  pub written_accepted : judging (plan_of ss) ≡ Ok (length ss)
   unfolding cleared
   written_accepted =
       accepts (plan_of ss) (length ss)

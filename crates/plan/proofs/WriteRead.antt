@@ -10,12 +10,11 @@ use borrow.Author.Tests.{le-ltb}
 use lib.Dec.{lit<}
 use lib.ListN.{length, get_or, take, drop, replicate, length-append, length-drop, take-append-drop, get_or-eq_default}
 use lib.Seq.{drop-drop, drop-length, take_at, length-take-le}
+use Rattle.std.specs.Prelude.{Ok}
 use Rattle.words.specs.Le.{load_at, bytes_of}
 use Rattle.words.proofs.Bytes.{bytes_load}
 use Rattle.line.specs.Station.{number_out}
 use Rattle.plan_format.specs.declared.Station.{Station}
-use Rattle.plan_format.specs.declared.ReadAnswer.TheVariants.{Stations}
-use Rattle.plan_format.specs.declared.WriteAnswer.TheVariants.{Length}
 use Rattle.plan_format.specs.Plan.{offset_of, length_of, begins, config_at, padded, station_at, stations_from, name_out}
 use Rattle.plan_format.specs.Typed.{AreBytes}
 use Rattle.plan_format.specs.Reading.{any, judging}
@@ -90,14 +89,14 @@ module _ (p : List ℕ) (bytes : (i : ℕ) → get_or p i 0 < 256) where
 past_end : (p : List ℕ) → AreBytes p → (i : ℕ) → get_or p i 0 < 256
 past_end p bytes i = elim (dec_lt i (length p)) [ yes l ↦ bytes i l | no l ↦ rw (get_or-eq_default p 0 {n = i} (omega arith)) (lit< tt) ]
 
-pub read_written : (p : List ℕ) (n : ℕ) → judging p ≡ Stations n → AreBytes p → plan_of (stations_from p 0 n) ≡ p
+pub read_written : (p : List ℕ) (n : ℕ) → judging p ≡ Ok n → AreBytes p → plan_of (stations_from p 0 n) ≡ p
 read_written p n e bytes = plan_written p (past_end p bytes) n (accepted p n e)
 
 -- ---- and the writer accepts it
 
 -- writing what was read into the front of a list, whatever stands after it: accepted, with the plan's bytes
-pub read_then_write : (p : List ℕ) (n room : ℕ) (more : List Station) → judging p ≡ Stations n → AreBytes p → length p ≤ room
-    → (writing n (stations_from p 0 n ++ more) room ≡ Length (length p)) × (plan_of (take n (stations_from p 0 n ++ more)) ≡ p)
+pub read_then_write : (p : List ℕ) (n room : ℕ) (more : List Station) → judging p ≡ Ok n → AreBytes p → length p ≤ room
+    → (writing n (stations_from p 0 n ++ more) room ≡ Ok (length p)) × (plan_of (take n (stations_from p 0 n ++ more)) ≡ p)
 unfolding writing
 read_then_write p n room more e bytes r =
     (rw (le-ltb n 1 a.some, le-ltb 256 n a.most, le-ltb (length ss) n long, fields, names, same, le-ltb room (length p) r), same)

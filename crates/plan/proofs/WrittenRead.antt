@@ -8,23 +8,21 @@ use lib.Dec.{ltb}
 use lib.ListN.{length, take, get_or}
 use lib.Seq.{length-take-le, get_or-take}
 use borrow.Author.Tests.{ltb-false}
+use Rattle.std.specs.Prelude.{Result, Ok, Err}
 use Rattle.refusal.specs.declared.Refusal.{Refusal}
 use Rattle.line.specs.Station.{number_out}
 use Rattle.line.proofs.Fits.{or_false}
 use Rattle.plan_format.specs.declared.Station.{Station}
-use Rattle.plan_format.specs.declared.ReadAnswer.TheVariants.{Stations}
-use Rattle.plan_format.specs.declared.WriteAnswer.{WriteAnswer}
-use Rattle.plan_format.specs.declared.WriteAnswer.TheVariants.{Length, Refused}
 use Rattle.plan_format.specs.Plan.{station_at, name_out}
 use Rattle.plan_format.specs.Typed.{Sized, AreSized}
-use Rattle.plan_format.specs.Reading.{any, judging}
+use Rattle.plan_format.specs.Reading.{any, judging, read_of}
 use Rattle.plan_format.specs.Writing.{plan_of, no_station, field_out, word_out, writing}
 use Rattle.plan_format.proofs.Lows.{any_none}
 use Rattle.plan_format.proofs.Names.{name_short}
 use Rattle.plan.proofs.ReadWritten.{Writable, cleared, written_accepted, written_read}
 
 -- a test that refuses did not hold
-passed : (b : Bool) (r : Refusal) (rest : WriteAnswer) {m : ℕ} → cond b (Refused r) rest ≡ Length m → (b ≡ false) × (rest ≡ Length m)
+passed : (b : Bool) (r : Refusal) (rest : Result ℕ Refusal) {m : ℕ} → cond b (Err r) rest ≡ Ok m → (b ≡ false) × (rest ≡ Ok m)
 passed true r rest e = let z : ◌≡◌ {A = ℕ} 0 1 = cc in absurd (omega arith)
 passed false r rest e = (refl, e)
 
@@ -34,7 +32,7 @@ record Accepted (n : ℕ) (ss : List Station) (m : ℕ) : Type 0 where
   pub count : length (take n ss) ≡ n
   pub size : length (plan_of (take n ss)) ≡ m
 
-module _ (n : ℕ) (ss : List Station) (room m : ℕ) (e : writing n ss room ≡ Length m) (sized : AreSized ss) where
+module _ (n : ℕ) (ss : List Station) (room m : ℕ) (e : writing n ss room ≡ Ok m) (sized : AreSized ss) where
   accepted : Accepted n ss m
   unfolding writing
   accepted =
@@ -55,19 +53,15 @@ module _ (n : ℕ) (ss : List Station) (room m : ℕ) (e : writing n ss room ≡
           names = λ k j. let i : k < n = omega arith in ap name_out (get_or-take n ss k no_station i) ∙ any_none (word_out ss) n k f.0 i;
         };
         count = l;
-        size = ap (λ (w : WriteAnswer). length_in w) g.1;
+        size = ap read_of g.1;
       }
-    where
-      length_in : WriteAnswer → ℕ
-      length_in (Length j) = j
-      length_in (Refused r) = 0
 
   pub write_length : length (plan_of (take n ss)) ≡ m
   write_length = accepted.size
 
   -- the plan that was written is accepted
-  pub write_accepted : judging (plan_of (take n ss)) ≡ Stations n
-  write_accepted = written_accepted (take n ss) accepted.writable ∙ ap Stations accepted.count
+  pub write_accepted : judging (plan_of (take n ss)) ≡ Ok n
+  write_accepted = written_accepted (take n ss) accepted.writable ∙ ap Ok accepted.count
 
   -- and its stations are those that were written, with zeros after their names
   pub write_then_read : (k : ℕ) → k < n → station_at (plan_of (take n ss)) k ≡ cleared (get_or ss k no_station)

@@ -1,10 +1,7 @@
 -- Plans are read and written as inverses: about the calls, each known by its promise alone.
-use Rattle.std.specs.Prelude.{◌≡◌, List, ◌++◌, ℕ, ◌<◌, ◌≤◌, length, take, drop, get_or}
+use Rattle.std.specs.Prelude.{Result, Ok, ◌≡◌, List, ◌++◌, ℕ, ◌<◌, ◌≤◌, length, take, drop, get_or}
+use Rattle.refusal.specs.declared.Refusal.{Refusal}
 use Rattle.plan_format.specs.declared.Station.{Station}
-use Rattle.plan_format.specs.declared.ReadAnswer.{ReadAnswer}
-use Rattle.plan_format.specs.declared.ReadAnswer.TheVariants.{Stations}
-use Rattle.plan_format.specs.declared.WriteAnswer.{WriteAnswer}
-use Rattle.plan_format.specs.declared.WriteAnswer.TheVariants.{Length}
 use Rattle.plan_format.specs.Writing.{no_station}
 use Rattle.plan_reading.specs.Promises.{ReadsPlan}
 use Rattle.plan_writing.specs.Promises.{WritesPlan}
@@ -21,10 +18,10 @@ EqualFirst n xs ys = (k : ℕ) → k < n → EqualRecords (get_or xs k no_statio
 
 pub record Inverse : Type 0 where
   -- the stations that an accepted read gave are accepted by the writer, and it writes the plan's bytes again, where the output holds them
-  pub written_again : (plan : List ℕ) (n : ℕ) (list stations : List Station) (out after : List ℕ) (r : WriteAnswer)
-      → ReadsPlan plan list (Stations n) stations → WritesPlan stations n out r after → length plan ≤ length out
-      → (r ≡ Length (length plan)) × (after ≡ plan ++ drop (length plan) out)
+  pub written_again : (plan : List ℕ) (n : ℕ) (list stations : List Station) (out after : List ℕ) (r : Result ℕ Refusal)
+      → ReadsPlan plan list (Ok n) stations → WritesPlan stations n out r after → length plan ≤ length out
+      → (r ≡ Ok (length plan)) × (after ≡ plan ++ drop (length plan) out)
   -- the bytes that an accepted write gave are accepted by the reader, and it gives equal records again, where the list holds them
-  pub read_again : (stations : List Station) (n len : ℕ) (out after : List ℕ) (list again : List Station) (r : ReadAnswer)
-      → WritesPlan stations n out (Length len) after → ReadsPlan (take len after) list r again → n ≤ length list
-      → (r ≡ Stations n) × EqualFirst n again stations
+  pub read_again : (stations : List Station) (n len : ℕ) (out after : List ℕ) (list again : List Station) (r : Result ℕ Refusal)
+      → WritesPlan stations n out (Ok len) after → ReadsPlan (take len after) list r again → n ≤ length list
+      → (r ≡ Ok n) × EqualFirst n again stations

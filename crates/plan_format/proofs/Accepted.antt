@@ -5,14 +5,13 @@ use mathlib.Core.Path.{◌≡◌, refl, sym, ap, subst}
 use mathlib.Core.Bool.{Bool, true, false, cond}
 use mathlib.Core.List.{List}
 use lib.Dec.{ltb}
+use Rattle.std.specs.Prelude.{Result, Ok, Err}
 use lib.ListN.{length}
 use borrow.Author.Tests.{ltb-false, le-ltb}
 use Rattle.refusal.specs.declared.Refusal.{Refusal}
 use Rattle.refusal.specs.declared.Refusal.TheVariants.{Output}
 use Rattle.line.specs.Station.{InRange, number_out}
 use Rattle.line.proofs.Fits.{or_false}
-use Rattle.plan_format.specs.declared.ReadAnswer.{ReadAnswer}
-use Rattle.plan_format.specs.declared.ReadAnswer.TheVariants.{Stations, Refused}
 use Rattle.plan_format.specs.Plan.{count, begins, station_at, shape_wrong, pair_wrong, trails, field_wrong, name_out, name_wrong}
 use Rattle.plan_format.specs.Lowest.{lowest}
 use Rattle.plan_format.specs.Reading.{any, judging, reading, read_of}
@@ -68,11 +67,11 @@ pairs_within p n a = let r = a.right 0 a.some in omega (arith, begins_first p n 
 -- ---- accepted
 
 -- a test that refuses did not hold
-passed : (b : Bool) (r : Refusal) (rest : ReadAnswer) {n : ℕ} → cond b (Refused r) rest ≡ Stations n → (b ≡ false) × (rest ≡ Stations n)
+passed : (b : Bool) (r : Refusal) (rest : Result ℕ Refusal) {n : ℕ} → cond b (Err r) rest ≡ Ok n → (b ≡ false) × (rest ≡ Ok n)
 passed true r rest e = let z : ◌≡◌ {A = ℕ} 0 1 = cc in absurd (omega arith)
 passed false r rest e = (refl, e)
 
-pub accepted : (p : List ℕ) (n : ℕ) → judging p ≡ Stations n → Accepted p n
+pub accepted : (p : List ℕ) (n : ℕ) → judging p ≡ Ok n → Accepted p n
 unfolding judging field_wrong name_wrong
 accepted p n e =
     let a = passed (shape_wrong p) _ _ e in
@@ -95,7 +94,7 @@ accepted p n e =
       names = λ k l. any_none (name_wrong p) (count p) k g.0 l;
     })
 
-pub accepts : (p : List ℕ) (n : ℕ) → Accepted p n → judging p ≡ Stations n
+pub accepts : (p : List ℕ) (n : ℕ) → Accepted p n → judging p ≡ Ok n
 unfolding judging field_wrong name_wrong
 accepts p n a =
     let b : Accepted p (count p) = subst (Accepted p) a.counted a in
@@ -107,10 +106,10 @@ accepts p n a =
       any_all (field_wrong p) (count p) b.numbers,
       any_all (name_wrong p) (count p) b.names,
     )
-    (ap Stations (sym a.counted))
+    (ap Ok (sym a.counted))
 
 -- the stations of an accepted plan are in range, as the line's rules ask
-pub accepted_in_range : (p : List ℕ) (n : ℕ) → judging p ≡ Stations n → InRange (record { count = n; config = λ k. (station_at p k).config })
+pub accepted_in_range : (p : List ℕ) (n : ℕ) → judging p ≡ Ok n → InRange (record { count = n; config = λ k. (station_at p k).config })
 accepted_in_range p n e = let a = accepted p n e in record { some = a.some; most = a.most; each = a.numbers }
 
 -- ---- what is read into a list of so many records
@@ -124,11 +123,11 @@ pub record Readable (p : List ℕ) (room n : ℕ) : Type 0 where
 none_readable : (p : List ℕ) (room : ℕ) → Readable p room 0
 none_readable p room = record { held = omega arith; few = omega arith; right = lowest_zero (pair_wrong p) }
 
-room_readable : (p : List ℕ) (room : ℕ) (a : ReadAnswer) → judging p ≡ a → Readable p room (read_of (in_room room a))
-room_readable p room (Refused r) e = none_readable p room
-room_readable p room (Stations n) e = by_test (ltb room n) refl
+room_readable : (p : List ℕ) (room : ℕ) (a : Result ℕ Refusal) → judging p ≡ a → Readable p room (read_of (in_room room a))
+room_readable p room (Err r) e = none_readable p room
+room_readable p room (Ok n) e = by_test (ltb room n) refl
   where
-    by_test : (t : Bool) → ltb room n ≡ t → Readable p room (read_of (cond t (Refused Output) (Stations n)))
+    by_test : (t : Bool) → ltb room n ≡ t → Readable p room (read_of (cond t (Err Output) (Ok n)))
     by_test true h = none_readable p room
     by_test false h = let a = accepted p n e in record { held = ltb-false room n h; few = a.most; right = lowest_all (pair_wrong p) n (λ k l. pair_passes p k (a.right k l)) }
 

@@ -8,7 +8,7 @@ use Rattle.words.specs.Le.{le_at, load_at}
 use Rattle.refusal.specs.declared.Refusal.TheVariants.{Output}
 use Rattle.refusal.specs.Tests.{refused}
 use Rattle.line.specs.Station.{parent_out, number_out}
-use Rattle.plan_format.specs.declared.ReadAnswer.TheVariants.{Stations, Refused}
+use Rattle.std.specs.Prelude.{Ok, Err}
 use Rattle.plan_format.specs.Lowest.{lowest}
 use Rattle.plan_format.specs.Plan.{offset_of, begins, config_at, station_at, stations_from, pair_wrong, field_wrong, any_out, name_out, name_wrong}
 use Rattle.plan_format.specs.Numbers.{read_says}
@@ -21,7 +21,7 @@ unfolding judging
 no_bytes = refl
 
 -- "One station: offset 10, 36 bytes at least"
-pub one_station : (p : List ℕ) → judging p ≡ Stations 1 → (offset_of p 0 ≡ 10) × (36 ≤ length p)
+pub one_station : (p : List ℕ) → judging p ≡ Ok 1 → (offset_of p 0 ≡ 10) × (36 ≤ length p)
 one_station p e =
     let a = accepted p 1 e in
     let r = a.right 0 a.some in
@@ -34,16 +34,16 @@ smallest =
     1 ∷ 0 ∷ 10 ∷ 0 ∷ 0 ∷ 0 ∷ 26 ∷ 0 ∷ 0 ∷ 0 ∷ 0 ∷ 0 ∷ 232 ∷ 3 ∷ 0 ∷ 0 ∷ 200 ∷ 0 ∷ 0 ∷ 0 ∷ 136 ∷ 19 ∷ 0 ∷ 0 ∷ 30 ∷ 0 ∷ 0 ∷ 0 ∷ 0 ∷ 0 ∷ 0 ∷ 0
     ∷ 1 ∷ 0 ∷ 0 ∷ 0 ∷ []
 
-pub smallest_read : judging smallest ≡ Stations 1
+pub smallest_read : judging smallest ≡ Ok 1
 unfolding judging lowest pair_wrong field_wrong name_wrong name_out any_out station_at config_at begins load_at le_at number_out parent_out
 smallest_read = refl
 
 -- number 18: a list of no records, one of a record
-pub smallest_no_room : reading smallest 0 ≡ Refused Output
+pub smallest_no_room : reading smallest 0 ≡ Err Output
 unfolding reading judging lowest pair_wrong field_wrong name_wrong name_out any_out station_at config_at begins load_at le_at number_out parent_out
 smallest_no_room = refl
 
-pub smallest_room : reading smallest 1 ≡ Stations 1
+pub smallest_room : reading smallest 1 ≡ Ok 1
 unfolding reading judging lowest pair_wrong field_wrong name_wrong name_out any_out station_at config_at begins load_at le_at number_out parent_out
 smallest_room = refl
 

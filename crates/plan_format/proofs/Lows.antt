@@ -3,7 +3,7 @@ use Prim.Native.Nat.{ℕ, zero, suc, ◌+◌, ◌≤◌, ◌<◌}
 use native.Mathlib.Nat.{not-suc-le-zero}
 use native.Mathlib.Numerals.{add-one}
 use native.Mathlib.Omega.{arith}
-use mathlib.Core.Path.{◌≡◌, refl, sym, ◌∙◌, ap}
+use mathlib.Core.Path.{◌≡◌, refl, sym}
 use mathlib.Core.Bool.{Bool, true, false, cond}
 use lib.Dec.{ltb}
 use borrow.Author.Tests.{le-ltb, ltb-true, ltb-false}
@@ -16,7 +16,7 @@ unfolding lowest
 lowest_zero f = refl
 
 -- none below k, and not k: none below k + 1
-pub lowest_next : (f : ℕ → Bool) (k : ℕ) → lowest f k ≡ k → f k ≡ false → lowest f (k + 1) ≡ k + 1
+lowest_next : (f : ℕ → Bool) (k : ℕ) → lowest f k ≡ k → f k ≡ false → lowest f (k + 1) ≡ k + 1
 unfolding lowest
 lowest_next f k e h = rw (add-one, lowest, e, le-ltb k k (omega arith), h)
 
@@ -36,11 +36,7 @@ lowest_found f k n e h l = sym (go n l)
     go zero b = absurd (not-suc-le-zero b)
     go (suc m) b = at_suc f k m e h (go m) (omega arith)
 
--- none below k, and k is n: none below n
-pub lowest_end : (f : ℕ → Bool) (k n : ℕ) → lowest f k ≡ k → k ≡ n → n ≡ lowest f n
-lowest_end f k n h e = sym e ∙ sym h ∙ ap (lowest f) e
-
-pub lowest_le : (f : ℕ → Bool) (n : ℕ) → lowest f n ≤ n
+lowest_le : (f : ℕ → Bool) (n : ℕ) → lowest f n ≤ n
 unfolding lowest
 lowest_le f zero = omega arith
 lowest_le f (suc m) = cases (lowest_le f m) (ltb (lowest f m) m) (f m)

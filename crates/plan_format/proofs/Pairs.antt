@@ -1,16 +1,12 @@
 -- A pair that is not wrong has its record whole in the plan.
-use Prim.Native.Nat.{ℕ, suc, ◌+◌, ◌-◌, ◌≤◌}
-use native.Mathlib.Omega.{arith}
-use mathlib.Core.Path.{◌≡◌, sym, ap, ◌∙◌}
-use mathlib.Core.Bool.{Bool, false}
+use Prim.Native.Nat.{ℕ, ◌+◌, ◌≤◌}
+use mathlib.Core.Path.{◌≡◌}
+use mathlib.Core.Bool.{false}
 use mathlib.Core.List.{List}
 use lib.ListN.{length}
 use borrow.Author.Tests.{eqb-true, not-false, ltb-false, le-ltb, eq-eqb}
-use Rattle.line.specs.declared.Config.{Config}
-use Rattle.line.specs.Station.{number_out}
 use Rattle.line.proofs.Fits.{or_false}
-use Rattle.plan_format.specs.declared.Station.{Station}
-use Rattle.plan_format.specs.Plan.{offset_of, length_of, begins, config_at, station_at, pair_wrong, field_wrong, name_out, name_wrong}
+use Rattle.plan_format.specs.Plan.{offset_of, length_of, begins, pair_wrong}
 
 pub record PairRight (p : List ℕ) (k : ℕ) : Type 0 where
   pub placed : offset_of p k ≡ begins p k
@@ -40,19 +36,3 @@ pair_passes p k r =
       le-ltb 42 (length_of p k) r.most,
       le-ltb (length p) (offset_of p k + length_of p k) r.within,
     )
-
--- ---- where a record has to begin
-
-pub begins_after : (p : List ℕ) (k : ℕ) → 1 ≤ k → begins p k ≡ offset_of p (k - 1) + length_of p (k - 1)
-unfolding begins
-begins_after p k h = let e : k ≡ suc (k - 1) = omega arith in ap (begins p) e
-
--- ---- what the tests of one station decide
-
-pub field_is : (p : List ℕ) (k : ℕ) {c : Config} {r : Bool} → c ≡ config_at p (offset_of p k) → r ≡ number_out k c → field_wrong p k ≡ r
-unfolding field_wrong station_at
-field_is p k e h = sym (h ∙ ap (number_out k) e)
-
-pub name_is : (p : List ℕ) (k : ℕ) {s : Station} {r : Bool} → s ≡ station_at p k → r ≡ name_out s → name_wrong p k ≡ r
-unfolding name_wrong
-name_is p k e h = sym (h ∙ ap name_out e)

@@ -1,5 +1,6 @@
 -- The bytes of a plan, and what is wrong with them (document 01, "Plan of a line" and numbers 1 to 5).
-use Rattle.std.specs.Prelude.{ℕ, zero, suc, ◌+◌, ◌-◌, ◌*◌, Bool, false, not, ◌||◌, List, [], ◌∷◌, ◌++◌, ltb, eqb, length, take, drop, replicate}
+use Rattle.std.specs.Prelude.{ℕ, zero, suc, ◌+◌, ◌-◌, ◌*◌, Bool, not, ◌||◌, List, [], ◌∷◌, ◌++◌, ltb, eqb, length, take, drop, replicate}
+use Rattle.std.specs.List.{list_any}
 use Rattle.words.specs.Le.{load_at}
 use Rattle.line.specs.declared.Config.{Config}
 use Rattle.line.specs.Station.{number_out}
@@ -76,8 +77,7 @@ abbrev pub byte_out : ℕ → Bool
 byte_out b = ltb b 0x21 || ltb 0x7e b
 
 unfoldable pub any_out : List ℕ → Bool
-any_out [] = false
-any_out (b ∷ bs) = byte_out b || any_out bs
+any_out bs = list_any byte_out bs
 
 unfoldable pub name_out : Station → Bool
 name_out s = ltb 16 s.len || any_out (take s.len s.name)

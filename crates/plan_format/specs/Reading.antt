@@ -1,10 +1,8 @@
 -- What reading a plan answers, in checking order (document 01, "What each number says", 1 to 5 and 18).
-use Rattle.std.specs.Prelude.{ℕ, Bool, List, [], ◌∷◌, ◌++◌, ltb}
+use Rattle.std.specs.Prelude.{ℕ, Bool, List, [], ◌∷◌, ◌++◌, ltb, Result, Ok, Err}
 use Rattle.refusal.specs.declared.Refusal.{Refusal}
 use Rattle.refusal.specs.declared.Refusal.TheVariants.{Shape, Pair, Trailing, Field, Name, Output}
 use Rattle.refusal.specs.Cases.{Case, gives, first_of}
-use Rattle.plan_format.specs.declared.ReadAnswer.{ReadAnswer}
-use Rattle.plan_format.specs.declared.ReadAnswer.TheVariants.{Stations, Refused}
 use Rattle.plan_format.specs.Lowest.{lowest}
 use Rattle.plan_format.specs.Plan.{count, shape_wrong, pair_wrong, trails, field_wrong, name_wrong}
 
@@ -27,18 +25,18 @@ plan_cases p =
     ∷ []
 
 -- the plan's refusal, or its number of stations
-unfoldable pub judging : List ℕ → ReadAnswer
-judging p = first_of Refused (plan_cases p) (Stations (count p))
+unfoldable pub judging : List ℕ → Result ℕ Refusal
+judging p = first_of Err (plan_cases p) (Ok (count p))
 
 -- "The plan reader uses 1 to 5 and 18": ".. the reader's list has fewer than N records"
 abbrev pub read_cases : List ℕ → ℕ → List Case
 read_cases p room = plan_cases p ++ (gives Output (ltb room (count p)) ∷ [])
 
 -- reading the plan into a list of so many records
-unfoldable pub reading : List ℕ → ℕ → ReadAnswer
-reading p room = first_of Refused (read_cases p room) (Stations (count p))
+unfoldable pub reading : List ℕ → ℕ → Result ℕ Refusal
+reading p room = first_of Err (read_cases p room) (Ok (count p))
 
 -- how many stations an answer says were read
-abbrev pub read_of : ReadAnswer → ℕ
-read_of (Stations n) = n
-read_of (Refused r) = 0
+abbrev pub read_of : Result ℕ Refusal → ℕ
+read_of (Ok n) = n
+read_of (Err r) = 0

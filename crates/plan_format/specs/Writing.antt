@@ -1,12 +1,11 @@
 -- The plan that a list of stations is written as, and what writing it answers (document 01, "Plan of a line"; the writer's numbers 1, 4, 5, 18).
-use Rattle.std.specs.Prelude.{ℕ, ◌+◌, ◌*◌, Bool, ◌||◌, List, [], ◌∷◌, ◌++◌, ltb, length, take, drop, get_or, replicate}
+use Rattle.std.specs.Prelude.{ℕ, ◌+◌, ◌*◌, Bool, ◌||◌, List, [], ◌∷◌, ◌++◌, ltb, length, take, drop, get_or, replicate, Result, Ok, Err}
 use Rattle.words.specs.Le.{bytes_of}
+use Rattle.refusal.specs.declared.Refusal.{Refusal}
 use Rattle.refusal.specs.declared.Refusal.TheVariants.{Shape, Field, Name, Output}
 use Rattle.refusal.specs.Cases.{Case, gives, first_of}
 use Rattle.line.specs.Station.{number_out}
 use Rattle.plan_format.specs.declared.Station.{Station}
-use Rattle.plan_format.specs.declared.WriteAnswer.{WriteAnswer}
-use Rattle.plan_format.specs.declared.WriteAnswer.TheVariants.{Length, Refused}
 use Rattle.plan_format.specs.Plan.{name_out}
 use Rattle.plan_format.specs.Reading.{gives_lowest}
 
@@ -60,10 +59,10 @@ write_cases n ss room =
     ∷ []
 
 -- writing the first n stations of the list into so many bytes
-unfoldable pub writing : ℕ → List Station → ℕ → WriteAnswer
-writing n ss room = first_of Refused (write_cases n ss room) (Length (length (plan_of (take n ss))))
+unfoldable pub writing : ℕ → List Station → ℕ → Result ℕ Refusal
+writing n ss room = first_of Err (write_cases n ss room) (Ok (length (plan_of (take n ss))))
 
 -- the output as the call leaves it, "what stands behind" the plan unchanged
-abbrev pub left : WriteAnswer → List ℕ → List ℕ → List ℕ
-left (Length n) plan out = plan ++ drop n out
-left (Refused r) plan out = out
+abbrev pub left : Result ℕ Refusal → List ℕ → List ℕ → List ℕ
+left (Ok n) plan out = plan ++ drop n out
+left (Err r) plan out = out

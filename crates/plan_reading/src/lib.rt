@@ -2,15 +2,15 @@
 
 #![tactic(auto)]
 
-ghost use Rattle.std.specs.Prelude.{◌≡◌, false, ◌++◌, ◌+◌, ◌<◌, ◌≤◌, length, take, drop};
+ghost use Rattle.std.specs.Prelude.{◌≡◌, ℕ, true, false, ◌++◌, ◌+◌, ◌<◌, ◌≤◌, length, take, drop, MatchOption};
 ghost use Rattle.plan_format.specs.Lowest.{lowest};
 ghost use Rattle.plan_format.specs.Plan.{padded, station_at, stations_from, pair_wrong, field_wrong, name_wrong};
-ghost use Rattle.plan_format.specs.Reading.{read_of};
 ghost use Rattle.plan_reading.specs.Promises.{Judges, JudgesIn, ReadsPlan};
+ghost use Rattle.plan_reading.specs.Search.{NoneBelow};
 
-use plan_format::{ReadAnswer, Station};
+use plan_format::Station;
 use refusal::Refusal;
-use words::load16;
+use words::load;
 
 // The bytes of a name, with zeros after them.
 fn name_at(plan: &[u8], at: usize, len: usize) -> [u8; 16]
@@ -18,11 +18,7 @@ fn name_at(plan: &[u8], at: usize, len: usize) -> [u8; 16]
     ensures { result ≡ padded (take len (drop at plan.now)) }
 {
     let mut name = [0u8; 16];
-    let mut i = 0;
-    while i < len {
-        name[i] = plan[at + i];
-        i += 1;
-    }
+    name[..len].copy_from_slice(&plan[at..at + len]);
     name
 }
 
@@ -39,100 +35,70 @@ fn station_at(plan: &[u8], k: usize) -> Station
     Station { config, name, len }
 }
 
-// The lowest station below n whose pair is wrong, or n; then the same for its numbers and for its name.
-fn lowest_pair(plan: &[u8], n: u16) -> u16
-    ensures { result ≡ lowest (pair_wrong plan.now) n }
+// A number of the station is out of range.
+#[tactic(auto, unfolding(plan_format::specs::Plan::field_wrong, plan_format::specs::Plan::station_at))]
+fn field_wrong(plan: &[u8], k: u16) -> bool
+    ensures { result ≡ field_wrong plan.now k }
 {
-    let mut k = 0;
-    while k < n {
-        if plan_format::pair_wrong(plan, k) {
-            return k;
-        }
-        k += 1;
-    }
-    n
+    plan_format::number_out(k, plan_format::config_at(plan, k))
 }
 
-fn lowest_field(plan: &[u8], n: u16) -> u16
-    ensures { result ≡ lowest (field_wrong plan.now) n }
+#[tactic(auto, unfolding(plan_format::specs::Plan::name_wrong))]
+// Its name is.
+fn name_wrong(plan: &[u8], k: u16) -> bool
+    requires { (k < 256) × (pair_wrong plan.now k ≡ false) }
+    ensures { result ≡ name_wrong plan.now k }
 {
-    let mut k = 0;
-    while k < n {
-        if plan_format::number_out(k, plan_format::config_at(plan, k)) {
-            return k;
-        }
-        k += 1;
-    }
-    n
+    plan_format::name_out(station_at(plan, k as usize))
 }
 
-fn lowest_name(plan: &[u8], n: u16) -> u16
-    requires { (n ≤ 256) × (lowest (pair_wrong plan.now) n ≡ n) }
-    ensures { result ≡ lowest (name_wrong plan.now) n }
+// The lowest station below n that is wrong.
+fn lowest_wrong<F: Fn(u16) -> bool>(n: u16, wrong: F) -> Option<u16>
+    requires { (k : ℕ) → k < n → F.pre wrong k }
+    ensures { MatchOption result (NoneBelow (F.post wrong) n) (λ k. (k < n) × NoneBelow (F.post wrong) k × F.post wrong k true) }
 {
-    let mut k = 0;
-    while k < n {
-        if plan_format::name_out(station_at(plan, k as usize)) {
-            return k;
+    for k in 0..n {
+        if wrong(k) {
+            return Some(k);
         }
-        k += 1;
     }
-    n
+    None
 }
 
 // What is wrong with a plan, in checking order; or its number of stations.
-pub fn judge(plan: &[u8]) -> ReadAnswer
+pub fn judge(plan: &[u8]) -> Result<usize, Refusal>
     ensures { Judges plan.now result }
 {
     if plan_format::shape_wrong(plan) {
-        return ReadAnswer::Refused(Refusal::Shape);
+        return Err(Refusal::Shape);
     }
-    let n = load16(plan, 0);
-    let pair = lowest_pair(plan, n);
-    if pair < n {
-        return ReadAnswer::Refused(Refusal::Pair(pair));
+    let n = load::<u16>(plan, 0);
+    if let Some(pair) = lowest_wrong(n, |k| plan_format::pair_wrong(plan, k)) {
+        return Err(Refusal::Pair(pair));
     }
     if plan_format::begin_of(plan, n) < plan.len() {
-        return ReadAnswer::Refused(Refusal::Trailing);
+        return Err(Refusal::Trailing);
     }
-    let field = lowest_field(plan, n);
-    if field < n {
-        return ReadAnswer::Refused(Refusal::Field(field));
+    if let Some(field) = lowest_wrong(n, |k| field_wrong(plan, k)) {
+        return Err(Refusal::Field(field));
     }
-    let name = lowest_name(plan, n);
-    if name < n {
-        return ReadAnswer::Refused(Refusal::Name(name));
+    if let Some(name) = lowest_wrong(n, |k| name_wrong(plan, k)) {
+        return Err(Refusal::Name(name));
     }
-    ReadAnswer::Stations(n as usize)
+    Ok(n as usize)
 }
 
 // ---- the lent list
 
 // What reading a plan into a list of so many records answers.
-pub fn judge_in(plan: &[u8], room: usize) -> ReadAnswer
+pub fn judge_in(plan: &[u8], room: usize) -> Result<usize, Refusal>
     ensures { JudgesIn plan.now room result }
 {
-    let a = judge(plan);
-    match a {
-        ReadAnswer::Stations(n) => {
-            if room < n {
-                ReadAnswer::Refused(Refusal::Output)
-            } else {
-                a
-            }
-        }
-        ReadAnswer::Refused(_) => a,
+    let n = judge(plan)?;
+    if room < n {
+        return Err(Refusal::Output);
     }
-}
-
-// How many stations an answer says were read.
-fn read_of(a: ReadAnswer) -> usize
-    ensures { result ≡ read_of a }
-{
-    match a {
-        ReadAnswer::Stations(n) => n,
-        ReadAnswer::Refused(_) => 0,
-    }
+    Ok(n)
 }
 
 // The first n records are set to the plan's first n stations.
@@ -140,19 +106,16 @@ fn fill(plan: &[u8], stations: &mut [Station], n: usize)
     requires { (n ≤ length stations.old) × ((n ≤ 256) × (lowest (pair_wrong plan.now) n ≡ n)) }
     ensures { stations.new ≡ stations_from plan.now 0 n ++ drop n stations.old }
 {
-    let mut k = 0;
-    while k < n {
+    for k in 0..n {
         stations[k] = station_at(plan, k);
-        k += 1;
     }
 }
 
 // Reads a plan into the lent records. A refusal leaves them as they were.
-pub fn read(plan: &[u8], stations: &mut [Station]) -> ReadAnswer
+pub fn read(plan: &[u8], stations: &mut [Station]) -> Result<usize, Refusal>
     ensures { ReadsPlan plan.now stations.old result stations.new }
 {
-    let a = judge_in(plan, stations.len());
-    let n = read_of(a);
+    let n = judge_in(plan, stations.len())?;
     fill(plan, stations, n);
-    a
+    Ok(n)
 }

@@ -3,7 +3,6 @@
 #![tactic(auto)]
 
 use line::Config;
-use plan::ReadAnswer;
 use refusal::Refusal;
 use std::io;
 
@@ -11,36 +10,26 @@ use std::io;
 
 // The byte i after a place.
 fn byte(out: &mut [u8], at: usize, i: usize, v: u8) {
-    if at < out.len() {
-        if i < out.len() - at {
-            out[at + i] = v;
-        }
+    if at < out.len() && i < out.len() - at {
+        out[at + i] = v;
     }
 }
 
-// The number of 2 or 4 bytes that stands i bytes after a place.
-fn two(out: &mut [u8], at: usize, i: u8, v: u16) {
-    let i = i as usize;
-    byte(&mut *out, at, i, (v % 256) as u8);
-    byte(&mut *out, at, i + 1, (v / 256) as u8);
-}
-
-fn four(out: &mut [u8], at: usize, i: u8, v: u32) {
-    let i = i as usize;
-    byte(&mut *out, at, i, (v % 256) as u8);
-    byte(&mut *out, at, i + 1, (v / 256 % 256) as u8);
-    byte(&mut *out, at, i + 2, (v / 65536 % 256) as u8);
-    byte(&mut *out, at, i + 3, (v / 16777216) as u8);
+// The bytes of a number, which stands i bytes after a place.
+fn number(out: &mut [u8], at: usize, i: u8, bytes: &[u8]) {
+    for (k, b) in bytes.iter().enumerate() {
+        byte(&mut *out, at, i as usize + k, *b);
+    }
 }
 
 fn numbers(out: &mut [u8], at: usize, c: Config) {
-    two(&mut *out, at, 0, c.parent);
-    four(&mut *out, at, 2, c.calm);
-    four(&mut *out, at, 6, c.spring);
-    four(&mut *out, at, 10, c.threshold);
-    four(&mut *out, at, 14, c.hop);
-    four(&mut *out, at, 18, c.noise);
-    four(&mut *out, at, 22, c.seed);
+    number(&mut *out, at, 0, &c.parent.to_le_bytes());
+    number(&mut *out, at, 2, &c.calm.to_le_bytes());
+    number(&mut *out, at, 6, &c.spring.to_le_bytes());
+    number(&mut *out, at, 10, &c.threshold.to_le_bytes());
+    number(&mut *out, at, 14, &c.hop.to_le_bytes());
+    number(&mut *out, at, 18, &c.noise.to_le_bytes());
+    number(&mut *out, at, 22, &c.seed.to_le_bytes());
 }
 
 fn usual() -> Config {
@@ -58,62 +47,52 @@ fn usual() -> Config {
 // n stations with the usual numbers and a name of so many bytes.
 fn lay(out: &mut [u8], n: u16, name: u8) {
     let size = 26 + name as usize;
-    two(&mut *out, 0, 0, n);
+    number(&mut *out, 0, 0, &n.to_le_bytes());
     let mut at = 2 + 8 * (n as usize);
-    let mut k: u16 = 0;
-    while k < n {
+    for k in 0..n {
         let pair = 2 + 8 * (k as usize);
-        four(&mut *out, pair, 0, at as u32);
-        four(&mut *out, pair, 4, size as u32);
+        number(&mut *out, pair, 0, &(at as u32).to_le_bytes());
+        number(&mut *out, pair, 4, &(size as u32).to_le_bytes());
         numbers(&mut *out, at, usual());
         letters(&mut *out, at, name);
         at += size;
-        k += 1;
     }
 }
 
 fn letters(out: &mut [u8], at: usize, n: u8) {
-    let mut i = 0;
-    while i < n {
+    for i in 0..n {
         byte(&mut *out, at, 26 + i as usize, b'a');
-        i += 1;
     }
 }
 
 // ---- what is written
 
-fn station(rt: &impl Print, k: u16) -> io::Result<()> {
-    rt.write_all(b" ")?;
-    rt.print(k as u64)
-}
-
 fn refused(rt: &impl Print, r: Refusal) -> io::Result<()> {
-    rt.write_all(b"no ")?;
-    rt.print(refusal::number(r))?;
+    let number = refusal::number(r);
     match r {
-        Refusal::Pair(k) => station(rt, k),
-        Refusal::Field(k) => station(rt, k),
-        Refusal::Name(k) => station(rt, k),
-        _ => Ok(())
+        Refusal::Pair(k) | Refusal::Field(k) | Refusal::Name(k) => println!(rt; "no {number} {k}"),
+        _ => println!(rt; "no {number}"),
     }
 }
 
-fn tell(rt: &impl Print, a: ReadAnswer) -> io::Result<()> {
+fn tell(rt: &impl Print, a: Result<usize, Refusal>) -> io::Result<()> {
     match a {
-        ReadAnswer::Stations(n) => {
-            rt.print(n as u64)?;
-        }
-        ReadAnswer::Refused(r) => refused(rt, r)?,
+        Ok(n) => println!(rt; "{n}"),
+        Err(r) => refused(rt, r),
     }
-    rt.write_all(b"\n")
 }
 
-// What judging the first len bytes says.
-fn say(rt: &impl Print, b: &[u8], len: usize) -> io::Result<()> {
-    if b.len() < len {
-        return Ok(());
+// What judging a plan says.
+fn say(rt: &impl Print, plan: &[u8]) -> io::Result<()> {
+    tell(rt, plan::judge(plan))
+}
+
+// .. and its first len bytes, where there are so many.
+fn say_front(rt: &impl Print, plan: &[u8], len: usize) -> io::Result<()> {
+    match plan.get(..len) {
+        Some(front) => say(rt, front),
+        None => Ok(()),
     }
-    tell(rt, plan::judge(&b[..len]))
 }
 
 // ---- the plans. Two stations with no names have their pairs at 2 and 10, their records at 18 and 44, and 70 bytes.
@@ -123,22 +102,22 @@ fn changed(rt: &impl Print, i: usize, v: u8) -> io::Result<()> {
     let mut b = [0u8; 70];
     lay(&mut b, 2, 0);
     byte(&mut b, 0, i, v);
-    say(rt, &b, 70)
+    say(rt, &b)
 }
 
 // .. and the same with a number of station 1 changed.
 fn numbered(rt: &impl Print, i: u8, v: u32) -> io::Result<()> {
     let mut b = [0u8; 70];
     lay(&mut b, 2, 0);
-    four(&mut b, 44, i, v);
-    say(rt, &b, 70)
+    number(&mut b, 44, i, &v.to_le_bytes());
+    say(rt, &b)
 }
 
 // The first len bytes of a right plan of two stations, with a byte after it.
 fn cut(rt: &impl Print, len: usize) -> io::Result<()> {
     let mut b = [0u8; 71];
     lay(&mut b, 2, 0);
-    say(rt, &b, len)
+    say_front(rt, &b, len)
 }
 
 // One station whose name has 16 bytes, one of them changed.
@@ -146,17 +125,17 @@ fn named(rt: &impl Print, v: u8) -> io::Result<()> {
     let mut b = [0u8; 52];
     lay(&mut b, 1, 16);
     byte(&mut b, 10, 41, v);
-    say(rt, &b, 52)
+    say(rt, &b)
 }
 
 fn accepted(rt: &impl Print) -> io::Result<()> {
     cut(rt, 70)?;
     let mut one = [0u8; 36];
     lay(&mut one, 1, 0);
-    say(rt, &one, 36)?;
+    say(rt, &one)?;
     let mut most = [0u8; 12802];
     lay(&mut most, 256, 16);
-    say(rt, &most, 12802)
+    say(rt, &most)
 }
 
 fn shapes(rt: &impl Print) -> io::Result<()> {
@@ -165,7 +144,7 @@ fn shapes(rt: &impl Print) -> io::Result<()> {
     changed(rt, 0, 0)?;
     let mut b = [0u8; 12900];
     lay(&mut b, 257, 16);
-    say(rt, &b, 12852)?;
+    say_front(rt, &b, 12852)?;
     cut(rt, 17)
 }
 
@@ -206,13 +185,13 @@ fn order(rt: &impl Print) -> io::Result<()> {
     let mut b = [0u8; 73];
     lay(&mut b, 2, 0);
     byte(&mut b, 14, 0, 25);
-    say(rt, &b, 71)?;
+    say_front(rt, &b, 71)?;
     lay(&mut b, 2, 1);
     byte(&mut b, 44, 0, 0x20);
-    say(rt, &b, 72)?;
-    four(&mut b, 45, 22, 0);
-    say(rt, &b, 72)?;
-    say(rt, &b, 73)
+    say_front(rt, &b, 72)?;
+    number(&mut b, 45, 22, &0u32.to_le_bytes());
+    say_front(rt, &b, 72)?;
+    say(rt, &b)
 }
 
 // Two stations, for a list of so many records.

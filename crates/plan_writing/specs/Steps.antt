@@ -1,13 +1,12 @@
 -- The writer's pass over a list of stations: what one station does to the pen and to the output.
-use Rattle.std.specs.Prelude.{ℕ, zero, suc, ◌+◌, ◌*◌, Bool, cond, ◌&&◌, List, ◌++◌, ltb, leb, eqb, length, get_or}
+use Rattle.std.specs.Prelude.{ℕ, zero, suc, ◌+◌, ◌*◌, Bool, cond, ◌&&◌, List, ◌++◌, ltb, leb, eqb, length, get_or, Result, Ok, Err}
 use Rattle.std.proofs.lemmas.List.Edits.{sets}
 use Rattle.words.specs.Le.{bytes_of}
+use Rattle.refusal.specs.declared.Refusal.{Refusal}
 use Rattle.refusal.specs.declared.Refusal.TheVariants.{Shape, Field, Name, Output}
 use Rattle.line.specs.Station.{number_out}
 use Rattle.line.specs.declared.Config.{Config}
 use Rattle.plan_format.specs.declared.Station.{Station}
-use Rattle.plan_format.specs.declared.WriteAnswer.{WriteAnswer}
-use Rattle.plan_format.specs.declared.WriteAnswer.TheVariants.{Length, Refused}
 use Rattle.plan_writing.specs.declared.Pen.{Pen}
 use Rattle.plan_format.specs.Plan.{name_out}
 use Rattle.plan_format.specs.Writing.{size_of, record_bytes, no_station, count_out}
@@ -83,15 +82,10 @@ abbrev pub wanted : ℕ → ℕ → ℕ
 wanted n len = cond (count_out n len) 0 n
 
 -- what the first pass's pen says of so much room
-unfoldable pub answered : Pen → ℕ → WriteAnswer
+unfoldable pub answered : Pen → ℕ → Result ℕ Refusal
 answered p room =
-    cond (ltb p.n 1) (Refused Shape)
-    (cond (ltb p.field p.n) (Refused (Field p.field))
-    (cond (ltb p.name p.n) (Refused (Name p.name))
-    (cond (ltb room p.at) (Refused Output)
-    (Length p.at))))
-
--- how many stations the second pass writes
-abbrev pub second_count : WriteAnswer → ℕ → ℕ
-second_count (Length l) n = n
-second_count (Refused r) n = 0
+    cond (ltb p.n 1) (Err Shape)
+    (cond (ltb p.field p.n) (Err (Field p.field))
+    (cond (ltb p.name p.n) (Err (Name p.name))
+    (cond (ltb room p.at) (Err Output)
+    (Ok p.at))))

@@ -8,14 +8,15 @@ ghost use Rattle.words.specs.Le.{bytes_of};
 ghost use Rattle.plan_format.specs.Typed.{AreSized};
 ghost use Rattle.plan_format.specs.Writing.{size_of, record_bytes};
 ghost use Rattle.plan_writing.specs.Promises.{WritesPlan};
-ghost use Rattle.plan_writing.specs.Steps.{lower, name_bytes, moved, ready, roomy, headed, placed, stepped, drafted, pen_of, wanted, answered, second_count, head_bytes, tail_bytes};
+ghost use Rattle.plan_writing.specs.Steps.{lower, name_bytes, moved, ready, roomy, headed, placed, stepped, drafted, pen_of, wanted, answered, head_bytes, tail_bytes};
 
 use line::Config;
-use plan_format::{Station, WriteAnswer};
+use plan_format::Station;
 use refusal::Refusal;
 
 // Where a pass over n stations stands: the next station k, where its record begins, and the lowest station below k with a number or a name
 // out of range, or k.
+// Kept: `writing` is a flag, since a closure for the step would take the output through the judging pass as well, and be no plainer.
 #[derive(Clone, Copy)]
 struct Pen {
     n: usize,
@@ -33,12 +34,12 @@ fn pen_of(n: usize, writing: bool) -> Pen
     ensures { result ≡ pen_of n writing }
 {
     Pen {
-        n: n,
+        n,
         k: 0,
         at: 2 + 8 * n,
         field: 0,
         name: 0,
-        writing: writing,
+        writing,
     }
 }
 
@@ -58,12 +59,10 @@ fn lowest_of(low: usize, k: usize, bad: bool) -> usize
 fn counted_of(len: usize) -> usize
     ensures { result ≡ name_bytes len }
 {
-    if 16 < len {
-        return 16;
-    }
-    len
+    len.min(16)
 }
 
+#[tactic(auto, unfolding(crate::specs::Steps::moved))]
 fn move_on(s: Station, p: Pen) -> Pen
     requires { (p.k < 256) × (p.at < 65536) }
     ensures { result ≡ moved s p }
@@ -76,8 +75,8 @@ fn move_on(s: Station, p: Pen) -> Pen
         n: p.n,
         k: k + 1,
         at: p.at + 26 + counted_of(s.len),
-        field: field,
-        name: name,
+        field,
+        name,
         writing: p.writing,
     }
 }
@@ -85,13 +84,7 @@ fn move_on(s: Station, p: Pen) -> Pen
 fn is_ready(p: Pen) -> bool
     ensures { result ≡ ready p }
 {
-    if p.n <= p.k {
-        return false;
-    }
-    if 256 < p.n {
-        return false;
-    }
-    p.at < 65536
+    p.k < p.n && p.n <= 256 && p.at < 65536
 }
 
 // ---- one station's bytes
@@ -100,11 +93,7 @@ fn put_name(out: &mut [u8], at: usize, name: [u8; 16], n: usize)
     requires { (at + n ≤ length out.old) × (n ≤ 16) }
     ensures { out.new ≡ sets out.old at (take n name) }
 {
-    let mut i = 0;
-    while i < n {
-        out[at + i] = name[i];
-        i += 1;
-    }
+    out[at..at + n].copy_from_slice(&name[..n]);
 }
 
 // The first four numbers of a record, and the other three.
@@ -112,19 +101,19 @@ fn put_head(out: &mut [u8], at: usize, c: Config)
     requires { at + 14 ≤ length out.old }
     ensures { out.new ≡ sets out.old at (head_bytes c) }
 {
-    words::store16(&mut *out, at, c.parent);
-    words::store32(&mut *out, at + 2, c.calm);
-    words::store32(&mut *out, at + 6, c.spring);
-    words::store32(&mut *out, at + 10, c.threshold);
+    words::store::<u16>(&mut *out, at, c.parent);
+    words::store::<u32>(&mut *out, at + 2, c.calm);
+    words::store::<u32>(&mut *out, at + 6, c.spring);
+    words::store::<u32>(&mut *out, at + 10, c.threshold);
 }
 
 fn put_tail(out: &mut [u8], at: usize, c: Config)
     requires { at + 12 ≤ length out.old }
     ensures { out.new ≡ sets out.old at (tail_bytes c) }
 {
-    words::store32(&mut *out, at, c.hop);
-    words::store32(&mut *out, at + 4, c.noise);
-    words::store32(&mut *out, at + 8, c.seed);
+    words::store::<u32>(&mut *out, at, c.hop);
+    words::store::<u32>(&mut *out, at + 4, c.noise);
+    words::store::<u32>(&mut *out, at + 8, c.seed);
 }
 
 fn put_record(out: &mut [u8], at: usize, s: Station)
@@ -143,8 +132,8 @@ fn put_pair(out: &mut [u8], k: usize, at: usize, size: usize)
     requires { (10 + 8 * k ≤ length out.old) × ((at < 65536) × (size < 65536)) }
     ensures { out.new ≡ sets out.old (2 + 8 * k) (bytes_of 4 at ++ bytes_of 4 size) }
 {
-    words::store32(&mut *out, 2 + 8 * k, at as u32);
-    words::store32(&mut *out, 6 + 8 * k, size as u32);
+    words::store::<u32>(&mut *out, 2 + 8 * k, at as u32);
+    words::store::<u32>(&mut *out, 6 + 8 * k, size as u32);
 }
 
 // The count of stations, before the first of them.
@@ -154,7 +143,7 @@ fn put_count(out: &mut [u8], p: Pen)
 {
     let n = p.n;
     if p.k == 0 {
-        words::store16(&mut *out, 0, n as u16);
+        words::store::<u16>(&mut *out, 0, n as u16);
     }
 }
 
@@ -162,19 +151,10 @@ fn has_room(s: Station, p: Pen, room: usize) -> bool
     requires { (p.k < 256) × (p.at < 65536) }
     ensures { result ≡ roomy s p room }
 {
-    let len = s.len;
-    if p.writing {
-        if 16 < len {
-            return false;
-        }
-        if room < 10 + 8 * p.k {
-            return false;
-        }
-        return p.at + (26 + len) <= room;
-    }
-    false
+    p.writing && s.len <= 16 && 10 + 8 * p.k <= room && p.at + (26 + s.len) <= room
 }
 
+#[tactic(auto, unfolding(crate::specs::Steps::placed))]
 fn put_station(out: &mut [u8], s: Station, p: Pen)
     requires { (p.k < p.n) × ((p.n ≤ 256) × (p.at < 65536)) }
     ensures { out.new ≡ cond (roomy s p (length out.old)) (placed s p out.old) out.old }
@@ -188,6 +168,7 @@ fn put_station(out: &mut [u8], s: Station, p: Pen)
 }
 
 // One station of a pass.
+#[tactic(auto, unfolding(crate::specs::Steps::stepped))]
 fn pen_step(out: &mut [u8], s: Station, p: Pen) -> Pen
     ensures { stepped s (record { pen = p; out = out.old }) ≡ record { pen = result; out = out.new } }
 {
@@ -203,17 +184,10 @@ fn pen_step(out: &mut [u8], s: Station, p: Pen) -> Pen
 fn wanted_of(n: u64, len: usize) -> usize
     ensures { result ≡ wanted n len }
 {
-    if n < 1 {
+    if n < 1 || 256 < n || len < n as usize {
         return 0;
     }
-    if 256 < n {
-        return 0;
-    }
-    let m = n as usize;
-    if len < m {
-        return 0;
-    }
-    m
+    n as usize
 }
 
 // The pen of the first pass, which writes nothing.
@@ -224,34 +198,24 @@ fn first_pen(n: u64, len: usize) -> Pen
 }
 
 // What the first pass found, with so much room.
-fn answer(p: Pen, room: usize) -> WriteAnswer
+#[tactic(auto, unfolding(crate::specs::Steps::answered))]
+fn answer(p: Pen, room: usize) -> Result<usize, Refusal>
     requires { p.n ≤ 256 }
     ensures { result ≡ answered p room }
 {
     if p.n < 1 {
-        return WriteAnswer::Refused(Refusal::Shape);
+        return Err(Refusal::Shape);
     }
     if p.field < p.n {
-        return WriteAnswer::Refused(Refusal::Field(p.field as u16));
+        return Err(Refusal::Field(p.field as u16));
     }
     if p.name < p.n {
-        return WriteAnswer::Refused(Refusal::Name(p.name as u16));
+        return Err(Refusal::Name(p.name as u16));
     }
     if room < p.at {
-        return WriteAnswer::Refused(Refusal::Output);
+        return Err(Refusal::Output);
     }
-    WriteAnswer::Length(p.at)
-}
-
-// The pen of the second pass, over no station where the plan is refused.
-fn second_pen(a: WriteAnswer, p: Pen) -> Pen
-    requires { p.n ≤ 256 }
-    ensures { result ≡ pen_of (second_count a p.n) true }
-{
-    match a {
-        WriteAnswer::Length(_) => pen_of(p.n, true),
-        WriteAnswer::Refused(_) => pen_of(0, true),
-    }
+    Ok(p.at)
 }
 
 // ---- the lent list
@@ -266,26 +230,23 @@ fn each(list: &[Station], out: &mut [u8], w: Pen) -> Pen
     requires { w.n ≤ length list.now }
     ensures { drafted list.now w.n (record { pen = w; out = out.old }) ≡ record { pen = result; out = out.new } }
 {
-    let n = w.n;
     let mut p = w;
-    let mut k = 0;
-    while k < n {
-        p = pen_step(&mut *out, list[k], p);
-        k += 1;
+    for s in &list[..w.n] {
+        p = pen_step(&mut *out, *s, p);
     }
     p
 }
 
 // Writes the plan of the first n stations into the lent bytes, and answers its length. The bytes after the plan stay, and a refusal changes
 // nothing.
-pub fn write(stations: &[Station], n: u64, out: &mut [u8]) -> WriteAnswer
+// Kept: n stands beside the list, since number 1 is promised where it is more than the list has (`count_out`).
+pub fn write(stations: &[Station], n: u64, out: &mut [u8]) -> Result<usize, Refusal>
     ensures { WritesPlan stations.now n out.old result out.new }
 {
     known(stations);
     let p = first_pen(n, stations.len());
     let q = each(stations, &mut *out, p);
-    let a = answer(q, out.len());
-    let w = second_pen(a, q);
-    each(stations, &mut *out, w);
-    a
+    let len = answer(q, out.len())?;
+    each(stations, &mut *out, pen_of(q.n, true));
+    Ok(len)
 }

@@ -6,7 +6,7 @@ use Rattle.plan_reading.proofs.Filled.{filled, filled_is, filled_zero, filled_ne
 use Rattle.plan_reading.proofs.fill.Goals as goal
 
 pub loop-k-init : goal.loop-k-init
-loop-k-init c = (omega arith, sym (filled_zero c.args.plan.now c.args.stations.now))
+loop-k-init c = sym (filled_zero c.args.plan.now c.args.stations.now)
 
 pub station_at-requires : goal.station_at-requires
 station_at-requires c = (omega arith, lowest_none (pair_wrong c.args.plan.now) c.args.n c.loop-k.k c.requires.1.1 c.loop-k-test.true)
@@ -18,10 +18,9 @@ loop-k-preserved c =
     let k = c.loop-k.k in
     let within : k < length ys = omega arith in
     let e = c.station_at.ensures in
-    let f = c.loop-k.invariant.1 in
-    (omega arith, (rw (e, f) (sym (filled_next p k ys within))))
+    rw (e, c.loop-k.invariant) (sym (filled_next p k ys within))
 
 pub returns : goal.returns
 returns c =
     let e : c.loop-k.k ≡ c.args.n = omega arith in
-    c.loop-k.invariant.1 ∙ ap (λ k. filled c.args.plan.now k c.args.stations.now) e ∙ filled_is c.args.plan.now c.args.n c.args.stations.now
+    c.loop-k.invariant ∙ ap (λ k. filled c.args.plan.now k c.args.stations.now) e ∙ filled_is c.args.plan.now c.args.n c.args.stations.now

@@ -1,83 +1,57 @@
--- The tests come in checking order: the first that finds a fault returns, and after each that finds none the answer is that of the tests left.
-use Prim.Native.Nat.{ℕ}
-use native.Mathlib.Omega.{arith}
-use mathlib.Core.Path.{◌≡◌, sym, ◌∙◌}
-use mathlib.Core.Bool.{false, cond}
-use mathlib.Core.List.{List}
-use borrow.Author.Tests.{lt-ltb, le-ltb}
-use lib.Dec.{ltb}
-use lib.ListN.{length}
-use Rattle.refusal.specs.declared.Refusal.TheVariants.{Trailing, Field, Name}
-use Rattle.plan_format.specs.declared.ReadAnswer.{ReadAnswer}
-use Rattle.plan_format.specs.declared.ReadAnswer.TheVariants.{Stations, Refused}
+-- The tests come in checking order: the first that finds a fault returns, and where each finds none the plan is accepted.
+use Rattle.std.proofs.Common.{◌≡◌, sym, ◌∙◌, rules, arith}
+use Rattle.plan_format.specs.Plan.{pair_wrong, field_wrong, name_wrong}
 use Rattle.plan_format.specs.Lowest.{lowest}
-use Rattle.plan_format.specs.Plan.{begins, shape_wrong, field_wrong, name_wrong}
-use Rattle.plan_format.specs.Reading.{judging}
-use Rattle.plan_format.proofs.Lows.{lowest_full}
+use Rattle.plan_format.proofs.Lows.{lowest_all}
 use Rattle.plan_format.proofs.Accepted.{shaped}
 use Rattle.plan_reading.proofs.Promised.{judges}
-use Rattle.plan_reading.proofs.Judging.{judged}
+use Rattle.plan_reading.proofs.Judging.{lowest_is, shape_out, pair_out, bytes_follow, field_out, name_out, none_out}
 use Rattle.plan_reading.proofs.judge.Goals as goal
 
--- ---- the answers of the tests left
-abbrev by_names : List ℕ → ℕ → ReadAnswer
-by_names p n = cond (ltb (lowest (name_wrong p) n) n) (Refused (Name (lowest (name_wrong p) n))) (Stations n)
-
-abbrev by_fields : List ℕ → ℕ → ReadAnswer
-by_fields p n = cond (ltb (lowest (field_wrong p) n) n) (Refused (Field (lowest (field_wrong p) n))) (by_names p n)
-
-abbrev by_end : List ℕ → ℕ → ReadAnswer
-by_end p n = cond (ltb (begins p n) (length p)) (Refused Trailing) (by_fields p n)
-
-pub lowest_name-name-requires : goal.lowest_name-name-requires
-lowest_name-name-requires c =
-    let plan : List ℕ = c.args.plan.now in
-    let shape : shape_wrong (plan) ≡ false = sym c.shape_wrong.ensures ∙ c.if-shape_wrong.false in
-    let m = shaped (plan) (shape) in
-    let n = c.load16-n.ensures in
-    let k = c.lowest_pair-pair.ensures in
-    (omega arith, lowest_full _ _ (omega (arith, c.if-pair-n.false)))
-
--- ---- the returns
 pub returns-then-shape_wrong : goal.returns-then-shape_wrong
-unfolding judging
-returns-then-shape_wrong c = judges (rw (sym c.shape_wrong.ensures ∙ c.if-shape_wrong.true))
+returns-then-shape_wrong c = judges (sym (shape_out _ (sym c.shape_wrong.ensures ∙ c.if-shape_wrong.true)))
 
-pub returns-then-pair-n : goal.returns-then-pair-n
-returns-then-pair-n c =
-    let plan : List ℕ = c.args.plan.now in
-    let shape : shape_wrong (plan) ≡ false = sym c.shape_wrong.ensures ∙ c.if-shape_wrong.false in
-    judges (rw (judged _ _ c.load16-n.ensures, shape, ← c.lowest_pair-pair.ensures, lt-ltb _ _ c.if-pair-n.true))
+pub returns-in-Some : goal.returns-in-Some
+returns-in-Some c =
+    let h = c.in-Some.ensures in
+    let shape = sym c.shape_wrong.ensures ∙ c.if-shape_wrong.false in
+    let pair : c.in-Some.pair ≡ lowest (pair_wrong c.args.plan.now) c.load-n.result = lowest_is _ _ _ h.0 (λ k l. let x = h.1 k l in search rules) (let x = h.2 in search rules) in
+    judges (sym (pair_out _ _ c.load-n.ensures shape _ h.0 pair))
 
 pub returns-then-begin_of-plan : goal.returns-then-begin_of-plan
 returns-then-begin_of-plan c =
-    let plan : List ℕ = c.args.plan.now in
-    let shape : shape_wrong (plan) ≡ false = sym c.shape_wrong.ensures ∙ c.if-shape_wrong.false in
-    let pairs : judging (plan) ≡ by_end (plan) c.load16-n.result = rw (judged _ _ c.load16-n.ensures, shape, ← c.lowest_pair-pair.ensures, le-ltb _ _ c.if-pair-n.false) in
-    judges (rw (pairs, ← c.begin_of.ensures, lt-ltb _ _ c.if-begin_of-plan.true))
+    let shape = sym c.shape_wrong.ensures ∙ c.if-shape_wrong.false in
+    let pairs : lowest (pair_wrong c.args.plan.now) c.load-n.result ≡ c.load-n.result = lowest_all _ _ (λ k l. let x = c.in_default.ensures k l in search rules) in
+    judges (sym (bytes_follow _ _ c.load-n.ensures shape pairs (omega (arith, c.begin_of.ensures))))
 
-pub returns-then-field-n : goal.returns-then-field-n
-returns-then-field-n c =
-    let plan : List ℕ = c.args.plan.now in
-    let shape : shape_wrong (plan) ≡ false = sym c.shape_wrong.ensures ∙ c.if-shape_wrong.false in
-    let pairs : judging (plan) ≡ by_end (plan) c.load16-n.result = rw (judged _ _ c.load16-n.ensures, shape, ← c.lowest_pair-pair.ensures, le-ltb _ _ c.if-pair-n.false) in
-    let ends : judging (plan) ≡ by_fields (plan) c.load16-n.result = rw (pairs, ← c.begin_of.ensures, le-ltb _ _ c.if-begin_of-plan.false) in
-    judges (rw (ends, ← c.lowest_field-field.ensures, lt-ltb _ _ c.if-field-n.true))
+pub returns-in-Some-lowest_wrong : goal.returns-in-Some-lowest_wrong
+returns-in-Some-lowest_wrong c =
+    let h = c.in-Some-lowest_wrong.ensures in
+    let shape = sym c.shape_wrong.ensures ∙ c.if-shape_wrong.false in
+    let pairs : lowest (pair_wrong c.args.plan.now) c.load-n.result ≡ c.load-n.result = lowest_all _ _ (λ k l. let x = c.in_default.ensures k l in search rules) in
+    let field : c.in-Some-lowest_wrong.field ≡ lowest (field_wrong c.args.plan.now) c.load-n.result = lowest_is _ _ _ h.0 (λ k l. let x = h.1 k l in search rules) (let x = h.2 in search rules) in
+    judges (sym (field_out _ _ c.load-n.ensures shape pairs (omega (arith, c.begin_of.ensures)) _ h.0 field))
 
-pub returns-then-name-n : goal.returns-then-name-n
-returns-then-name-n c =
-    let plan : List ℕ = c.args.plan.now in
-    let shape : shape_wrong (plan) ≡ false = sym c.shape_wrong.ensures ∙ c.if-shape_wrong.false in
-    let pairs : judging (plan) ≡ by_end (plan) c.load16-n.result = rw (judged _ _ c.load16-n.ensures, shape, ← c.lowest_pair-pair.ensures, le-ltb _ _ c.if-pair-n.false) in
-    let ends : judging (plan) ≡ by_fields (plan) c.load16-n.result = rw (pairs, ← c.begin_of.ensures, le-ltb _ _ c.if-begin_of-plan.false) in
-    let fields : judging (plan) ≡ by_names (plan) c.load16-n.result = rw (ends, ← c.lowest_field-field.ensures, le-ltb _ _ c.if-field-n.false) in
-    judges (rw (fields, ← c.lowest_name-name.ensures, lt-ltb _ _ c.if-name-n.true))
+pub lowest_wrong-requires-3 : goal.lowest_wrong-requires-3
+lowest_wrong-requires-3 c k l κs ref_ptr e r s t u =
+    let x = c.in_default.ensures k l in
+    let m = shaped _ (sym c.shape_wrong.ensures ∙ c.if-shape_wrong.false) in
+    let n = c.load-n.ensures in
+    (omega arith, search rules)
+
+pub returns-in-Some-lowest_wrong-2 : goal.returns-in-Some-lowest_wrong-2
+returns-in-Some-lowest_wrong-2 c =
+    let h = c.in-Some-lowest_wrong-2.ensures in
+    let shape = sym c.shape_wrong.ensures ∙ c.if-shape_wrong.false in
+    let pairs : lowest (pair_wrong c.args.plan.now) c.load-n.result ≡ c.load-n.result = lowest_all _ _ (λ k l. let x = c.in_default.ensures k l in search rules) in
+    let fields : lowest (field_wrong c.args.plan.now) c.load-n.result ≡ c.load-n.result = lowest_all _ _ (λ k l. let x = c.in_default-lowest_wrong.ensures k l in search rules) in
+    let name : c.in-Some-lowest_wrong-2.name ≡ lowest (name_wrong c.args.plan.now) c.load-n.result = lowest_is _ _ _ h.0 (λ k l. let x = h.1 k l in search rules) (let x = h.2 in search rules) in
+    judges (sym (name_out _ _ c.load-n.ensures shape pairs (omega (arith, c.begin_of.ensures)) fields _ h.0 name))
 
 pub returns : goal.returns
 returns c =
-    let plan : List ℕ = c.args.plan.now in
-    let shape : shape_wrong (plan) ≡ false = sym c.shape_wrong.ensures ∙ c.if-shape_wrong.false in
-    let pairs : judging (plan) ≡ by_end (plan) c.load16-n.result = rw (judged _ _ c.load16-n.ensures, shape, ← c.lowest_pair-pair.ensures, le-ltb _ _ c.if-pair-n.false) in
-    let ends : judging (plan) ≡ by_fields (plan) c.load16-n.result = rw (pairs, ← c.begin_of.ensures, le-ltb _ _ c.if-begin_of-plan.false) in
-    let fields : judging (plan) ≡ by_names (plan) c.load16-n.result = rw (ends, ← c.lowest_field-field.ensures, le-ltb _ _ c.if-field-n.false) in
-    judges (rw (fields, ← c.lowest_name-name.ensures, le-ltb _ _ c.if-name-n.false))
+    let shape = sym c.shape_wrong.ensures ∙ c.if-shape_wrong.false in
+    let pairs : lowest (pair_wrong c.args.plan.now) c.load-n.result ≡ c.load-n.result = lowest_all _ _ (λ k l. let x = c.in_default.ensures k l in search rules) in
+    let fields : lowest (field_wrong c.args.plan.now) c.load-n.result ≡ c.load-n.result = lowest_all _ _ (λ k l. let x = c.in_default-lowest_wrong.ensures k l in search rules) in
+    let names : lowest (name_wrong c.args.plan.now) c.load-n.result ≡ c.load-n.result = lowest_all _ _ (λ k l. let x = c.in_default-lowest_wrong-2.ensures k l in search rules) in
+    judges (sym (none_out _ _ c.load-n.ensures shape pairs (omega (arith, c.begin_of.ensures)) fields names))

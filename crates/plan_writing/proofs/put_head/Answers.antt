@@ -24,8 +24,8 @@ returns c =
     store_then l at (at + 10) 4 v.threshold p₃
     (store_then l at (at + 6) 4 v.spring p₂
     (store_then l at (at + 2) 4 v.calm p₁
-    (c.store16.ensures ∙ store_sets 2 at v.parent l (omega arith))
-    c.store32.ensures (simp length_bytes) (omega arith))
-    c.store32-2.ensures (simp (length-append, length_bytes)) (omega arith))
-    c.store32-3.ensures (simp (length-append, length_bytes)) (omega arith)
+    (c.store.ensures ∙ store_sets 2 at v.parent l (omega arith))
+    c.store-2.ensures (simp length_bytes) (omega arith))
+    c.store-3.ensures (simp (length-append, length_bytes)) (omega arith))
+    c.store-4.ensures (simp (length-append, length_bytes)) (omega arith)
     ∙ ap (sets l at) e

@@ -13,5 +13,5 @@ returns c =
     let l = a.out.now in
     let at = 2 + 8 * a.k in
     store_then l at (6 + 8 * a.k) 4 a.size (bytes_of 4 a.at)
-    (c.store32.ensures ∙ store_sets 4 at a.at l (omega arith))
-    c.store32-2.ensures (simp length_bytes (omega arith)) (omega arith)
+    (c.store.ensures ∙ store_sets 4 at a.at l (omega arith))
+    c.store-2.ensures (simp length_bytes (omega arith)) (omega arith)

@@ -22,7 +22,7 @@ returns c =
     let e : p₂ ++ bytes_of 4 v.seed ≡ tail_bytes v = simp append_assoc in
     store_then l at (at + 8) 4 v.seed p₂
     (store_then l at (at + 4) 4 v.noise p₁
-    (c.store32.ensures ∙ store_sets 4 at v.hop l (omega arith))
-    c.store32-2.ensures (simp length_bytes) (omega arith))
-    c.store32-3.ensures (simp (length-append, length_bytes)) (omega arith)
+    (c.store.ensures ∙ store_sets 4 at v.hop l (omega arith))
+    c.store-2.ensures (simp length_bytes) (omega arith))
+    c.store-3.ensures (simp (length-append, length_bytes)) (omega arith)
     ∙ ap (sets l at) e
