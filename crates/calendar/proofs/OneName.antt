@@ -7,10 +7,12 @@ use Prim.Native.Nat.{ℕ, ◌≤◌, ◌<◌}
 use native.Mathlib.Omega.{arith}
 use Rattle.refusal.specs.Tests.{says, judged}
 use Rattle.refusal.proofs.CheckingOrder.{not_both}
+use Rattle.std.specs.Prelude.{Result, Ok, Err, IfOk, IfErr}
+use Rattle.refusal.specs.declared.Refusal.{Refusal}
+use Rattle.refusal.specs.declared.Refusal.TheVariants.{Idle}
 use Rattle.calendar_answers.specs.declared.Least.{Least}
-use Rattle.calendar_answers.specs.declared.Least.TheVariants.{At, Refused as NoLeast}
-use Rattle.calendar_header.specs.Rules.{Calendar, none_registered, LeastAt}
-use Rattle.calendar_header.specs.Promises.{least_verdict, Names}
+use Rattle.calendar_header.specs.Rules.{Calendar, none_registered, lowest_checks, words_of, LeastAt}
+use Rattle.calendar_header.specs.Promises.{verdict_of, Names}
 use Rattle.calendar_header.proofs.Tests.{least_before}
 use Rattle.calendar.specs.Left.{Left}
 use Rattle.calendar.proofs.Calls.{left_names}
@@ -25,37 +27,36 @@ one_least {ts} {s} {t} {x} {u} l k = go (least_before l x u k.has) (least_before
     go (inr a) (inr b) = (omega (arith, a.1, b.1), a.0)
 
 -- the answer without its count
-abbrev pub without_count : Least → Least
-without_count (At s t c) = At s t 0
-without_count (NoLeast e) = NoLeast e
+abbrev pub without_count : Result Least Refusal → Result Least Refusal
+without_count (Ok a) = Ok (record { station = a.station; time = a.time; words = 0 })
+without_count (Err e) = Err e
 
 -- two calendars with the same registered times name the same station and time, or both refuse, whatever arity, leaf width and floor each has
-pub same_name : {xs ys : List ℕ} {p q : Calendar} {r m : Least} → Left xs p → Left ys q → p.times ≡ q.times → Names xs r → Names ys m
+pub same_name : {xs ys : List ℕ} {p q : Calendar} {r m : Result Least Refusal} → Left xs p → Left ys q → p.times ≡ q.times → Names xs r → Names ys m
     → without_count r ≡ without_count m
-same_name {p = p} {q = q} {r = r} {m = m} L K e N M = go r m refl refl
+same_name {p = p} {q = q} {r = r} {m = m} L K e N M = go r m (left_names L N) (left_names K M) N.idle M.idle
   where
-    -- both are judged alike
-    verdicts : least_verdict r ≡ least_verdict m
-    verdicts = (left_names L N).0 ∙ ap (λ ts. judged (says 14 (none_registered ts) ∷ [])) e ∙ sym (left_names K M).0
-
-    go : (a b : Least) → r ≡ a → m ≡ b → without_count r ≡ without_count m
-    go (At s t c) (At x u d) j k =
-        let z = one_least ((left_names L N).1 s t c j).0 (subst (λ ts. LeastAt ts x u) (sym e) ((left_names K M).1 x u d k).0) in
-        ap without_count j ∙ ap (λ y. At y t 0) z.0 ∙ ap (λ y. At x y 0) z.1 ∙ sym (ap without_count k)
-    go (At s t c) (NoLeast f) j k = absurd (not_both (ap least_verdict j) (verdicts ∙ ap least_verdict k))
-    go (NoLeast f) (At s t c) j k = absurd (not_both (ap least_verdict k) (sym verdicts ∙ ap least_verdict j))
-    go (NoLeast f) (NoLeast g) j k = ap without_count j ∙ ap NoLeast (N.idle f j ∙ sym (M.idle g k)) ∙ sym (ap without_count k)
+    go : (a b : Result Least Refusal)
+        → (verdict_of a ≡ judged (lowest_checks p)) × IfOk a (λ x. LeastAt p.times x.station x.time × (x.words ≡ words_of p))
+        → (verdict_of b ≡ judged (lowest_checks q)) × IfOk b (λ x. LeastAt q.times x.station x.time × (x.words ≡ words_of q))
+        → IfErr a (λ f. f ≡ Idle) → IfErr b (λ f. f ≡ Idle) → without_count a ≡ without_count b
+    go (Ok a) (Ok b) l k _ _ =
+        let z = one_least l.1.0 (subst (λ ts. LeastAt ts b.station b.time) (sym e) k.1.0) in
+        λ i. Ok (record { station = z.0 i; time = z.1 i; words = 0 })
+    go (Ok a) (Err f) l k _ _ = absurd (not_both (sym (l.0 ∙ ap (λ ts. judged (says 14 (none_registered ts) ∷ [])) e)) (sym k.0))
+    go (Err f) (Ok b) l k _ _ = absurd (not_both (sym k.0) (sym (l.0 ∙ ap (λ ts. judged (says 14 (none_registered ts) ∷ [])) e)))
+    go (Err f) (Err g) l k i j = ap Err (i ∙ sym j)
 
 -- with the same arity, leaf width and floor too the count is the same
-pub one_name : {xs ys : List ℕ} {q : Calendar} {r m : Least} → Left xs q → Left ys q → Names xs r → Names ys m → r ≡ m
-one_name {q = q} {r = r} {m = m} L K N M = go r m refl refl (same_name L K refl N M)
+pub one_name : {xs ys : List ℕ} {q : Calendar} {r m : Result Least Refusal} → Left xs q → Left ys q → Names xs r → Names ys m → r ≡ m
+one_name {q = q} {r = r} {m = m} L K N M = go r m (left_names L N).1 (left_names K M).1 (same_name L K refl N M)
   where
-    go : (a b : Least) → r ≡ a → m ≡ b → without_count a ≡ without_count b → a ≡ b
-    go (At s t c) (At x u d) j k e =
-        let l : c ≡ d = ((left_names L N).1 s t c j).1 ∙ sym ((left_names K M).1 x u d k).1 in
-        let f : s ≡ x = cc in
-        let g : t ≡ u = cc in
-        ap (λ y. At y t c) f ∙ ap (λ y. At x y c) g ∙ ap (At x u) l
-    go (At s t c) (NoLeast f) j k e = absurd (let z : ◌≡◌ {A = ℕ} 0 1 = cc in omega arith)
-    go (NoLeast f) (At s t c) j k e = absurd (let z : ◌≡◌ {A = ℕ} 0 1 = cc in omega arith)
-    go (NoLeast f) (NoLeast g) j k e = e
+    go : (a b : Result Least Refusal) → IfOk a (λ x. LeastAt q.times x.station x.time × (x.words ≡ words_of q))
+        → IfOk b (λ x. LeastAt q.times x.station x.time × (x.words ≡ words_of q)) → without_count a ≡ without_count b → a ≡ b
+    go (Ok a) (Ok b) l k e =
+        let z = one_least l.0 k.0 in
+        let w = l.1 ∙ sym k.1 in
+        λ i. Ok (record { station = z.0 i; time = z.1 i; words = w i })
+    go (Ok a) (Err f) l k e = absurd (let z : ◌≡◌ {A = ℕ} 0 1 = cc in omega arith)
+    go (Err f) (Ok b) l k e = absurd (let z : ◌≡◌ {A = ℕ} 0 1 = cc in omega arith)
+    go (Err f) (Err g) l k e = e

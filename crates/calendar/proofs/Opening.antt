@@ -20,7 +20,7 @@ use Rattle.calendar_shapes.proofs.Powers.{sizes, right_arity}
 use Rattle.calendar_cells.specs.Cells.{word_at, put_word}
 use Rattle.calendar_cells.specs.Table.{arity_of, due_of, Table}
 use Rattle.calendar_buckets.specs.Promises.{Cleared}
-use Rattle.calendar_answers.specs.declared.Answer.TheVariants.{Done, Refused}
+use Rattle.std.specs.Prelude.{Ok, Err}
 use Rattle.calendar_ring.specs.Ring.{block_of}
 use Rattle.calendar_header.specs.Rules.{open_checks, opened_calendar}
 use Rattle.calendar_header.specs.Bytes.{width_of, floor_of, count_of, Header, SoundAt, times_from, state_of}
@@ -91,23 +91,18 @@ right_clears row q xs ys l r C =
 -- ---- open
 
 module _ (xs : List ℕ) (n a w : ℕ) where
-  opens_refused : (e : Refusal) → refused (number_of e) ≡ judged (open_checks n a w (length xs)) → OpensCalendar n a w xs (Refused e) xs
-  opens_refused e h = record {
-    refusal = λ _ _. refl;
-    answer = h;
-    state = λ q. absurd (let z : ◌≡◌ {A = ℕ} 0 1 = cc in omega arith);
-    sound = λ q. absurd (let z : ◌≡◌ {A = ℕ} 0 1 = cc in omega arith);
-  }
+  opens_refused : (e : Refusal) → refused (number_of e) ≡ judged (open_checks n a w (length xs)) → OpensCalendar n a w xs (Err e) xs
+  opens_refused e h = record { refusal = refl; answer = h; state = tt; sound = tt }
 
-  pub open_missing : arity_out a ≡ true → OpensCalendar n a w xs (Refused Arity) xs
+  pub open_missing : arity_out a ≡ true → OpensCalendar n a w xs (Err Arity) xs
   open_missing h = opens_refused Arity (arity_first n a w (length xs) h)
 
   module _ (one : arity_out a ≡ false) where
-    pub open_narrow : w ≡ 0 → OpensCalendar n a w xs (Refused Width) xs
+    pub open_narrow : w ≡ 0 → OpensCalendar n a w xs (Err Width) xs
     unfolding judged or_next
     open_narrow h = opens_refused Width (rw (one, lt-ltb w 1 (omega arith)))
 
-    pub open_wide : (w ≡ 0 → ⊥) → 1048576 < w → OpensCalendar n a w xs (Refused Width) xs
+    pub open_wide : (w ≡ 0 → ⊥) → 1048576 < w → OpensCalendar n a w xs (Err Width) xs
     unfolding judged or_next
     open_wide p h = opens_refused Width (rw (one, le-ltb w 1 (omega arith), lt-ltb 1048576 w h))
 
@@ -115,20 +110,20 @@ module _ (xs : List ℕ) (n a w : ℕ) where
       width_in : ltb w 1 || ltb 1048576 w ≡ false
       width_in = rw (le-ltb w 1 (omega arith), le-ltb 1048576 w mw)
 
-      space : ltb n 1 || (ltb 256 n || ltb (length xs) (128 * (a * a) + 64 * n)) ≡ true → OpensCalendar n a w xs (Refused Space) xs
+      space : ltb n 1 || (ltb 256 n || ltb (length xs) (128 * (a * a) + 64 * n)) ≡ true → OpensCalendar n a w xs (Err Space) xs
       unfolding judged or_next
       space h = opens_refused Space (rw (one, width_in, h))
 
-      pub open_none : n ≡ 0 → OpensCalendar n a w xs (Refused Space) xs
+      pub open_none : n ≡ 0 → OpensCalendar n a w xs (Err Space) xs
       open_none h = space (rw (lt-ltb n 1 (omega arith)))
 
       module _ (pn : n ≡ 0 → ⊥) where
-        pub open_many : 256 < n → OpensCalendar n a w xs (Refused Space) xs
+        pub open_many : 256 < n → OpensCalendar n a w xs (Err Space) xs
         open_many h = space (rw (le-ltb n 1 (omega arith), lt-ltb 256 n h))
 
         -- blocks of q leaves
         module _ (mn : n ≤ 256) (q : ℕ) (eq : q ≡ a * a) where
-          pub open_short : length xs < 128 * q + 64 * n → OpensCalendar n a w xs (Refused Space) xs
+          pub open_short : length xs < 128 * q + 64 * n → OpensCalendar n a w xs (Err Space) xs
           open_short h = space (rw (le-ltb n 1 (omega arith), le-ltb 256 n mn, lt-ltb (length xs) (128 * (a * a) + 64 * n) (omega (arith, eq))))
 
           module _ (room : 128 * q + 64 * n ≤ length xs) (Z : Sizes a) (ys zs : List ℕ) (C : Cleared a xs ys) (B : BegunCalendar n w q ys zs) where
@@ -173,11 +168,11 @@ module _ (xs : List ℕ) (n a w : ℕ) where
                 ap (times_from (due_of zs) 0) (B.count_is long) ∙ times_none (due_of zs) 0 n (λ x l. absent x (omega arith)) in
                 λ i. record { arity = k i; width = v i; floor = f i; times = t i }
 
-            pub open_done : OpensCalendar n a w xs Done zs
+            pub open_done : OpensCalendar n a w xs (Ok tt) zs
             unfolding judged or_next
             open_done = record {
-              refusal = λ e q. absurd (let z : ◌≡◌ {A = ℕ} 0 1 = cc in omega arith);
+              refusal = tt;
               answer = rw (one, width_in, le-ltb n 1 (omega arith), le-ltb 256 n mn, le-ltb (length xs) (128 * (a * a) + 64 * n) room_is);
-              state = λ _. open_state;
-              sound = λ _. sound_of open_sound;
+              state = open_state;
+              sound = sound_of open_sound;
             }

@@ -1,19 +1,11 @@
-// What the calendar's calls answer.
+// What the calendar's calls answer that name a station.
 
 #![tactic(auto)]
 
-use refusal::Refusal;
-
-// What a call answers that names no station.
-#[derive(Clone, Copy)]
-pub enum Answer {
-    Done,
-    Refused(Refusal),
-}
-
 // What lowest and extract answer: words is how many bitmap words they read.
-#[derive(Clone, Copy)]
-pub enum Least {
-    At { station: u64, time: u64, words: u64 },
-    Refused(Refusal),
+#[derive(Clone, Copy, PartialEq, Eq)]
+pub struct Least {
+    pub station: u64,
+    pub time: u64,
+    pub words: u64,
 }

@@ -1,6 +1,6 @@
 // The bits above the buckets: what is raised and lowered as buckets are filled and emptied.
 //
-// Each call goes by the row to one function that has it as a literal: there the compiler knows the arity, and one test of the length stands for all.
+// Kept: each call goes by the row to one function that has it as a literal: there the compiler knows the arity, and one test of the length stands for all.
 
 #![tactic(auto)]
 

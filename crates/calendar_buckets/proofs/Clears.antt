@@ -2,12 +2,13 @@
 use mathlib.Core.Path.{◌≡◌, refl, sym, ap, ap₂, ◌∙◌}
 use mathlib.Core.Bool.{Bool, true, false, cond, ◌&&◌}
 use mathlib.Core.Logic.{◌⊎◌, inl, inr}
-use mathlib.Core.List.{List}
-use Prim.Native.Nat.{ℕ, zero, suc, ◌+◌, ◌*◌, ◌/◌, ◌%◌, ◌^◌, ◌≤◌, ◌<◌}
+use mathlib.Core.List.{List, ◌++◌}
+use Prim.Native.Nat.{ℕ, zero, suc, ◌+◌, ◌-◌, ◌*◌, ◌/◌, ◌%◌, ◌^◌, ◌≤◌, ◌<◌}
 use native.Mathlib.Omega.{arith}
 use lib.Dec.{ltb, leb}
-use lib.ListN.{length, get_or, set, length-set, get_or-eq_default}
-use lib.Seq.{get_or-set_same, get_or-set_other}
+use lib.ListN.{length, get_or, take, drop, replicate, length-replicate, get_or-eq_default}
+use borrow.Rule.Slice.PartMut.{put_mid, post_of, mid_len, same_len_mid}
+use Rattle.std.proofs.lemmas.List.{length-take-le, get_or_append_left, get_or-append_right, get_or-take, get_or-drop, get_or-replicate}
 use borrow.Author.Tests.{lt-ltb, le-ltb, le-leb, lt-leb}
 use Rattle.words.specs.Le.{le_at, load_at}
 use Rattle.calendar_bitmap.specs.Child.{child}
@@ -22,7 +23,7 @@ use Rattle.calendar_cells.specs.Table.{due_of, node_word, root_of, arity_of, byt
 use Rattle.calendar_buckets.specs.Promises.{Cleared}
 use Rattle.calendar_cells.proofs.CellLaws.{length_word, byte_word, word_same, word_other}
 use Rattle.calendar_cells.proofs.TableLaws.{node_in, root_in}
-use Rattle.words.proofs.Cases.{eq_or, lt_or}
+use Rattle.words.proofs.Cases.{lt_or}
 
 -- the bytes from 64 to i are 0, and the others are as they were
 pub record Wiped (xs ys : List ℕ) (i : ℕ) : Type 0 where
@@ -34,25 +35,32 @@ pub record Wiped (xs ys : List ℕ) (i : ℕ) : Type 0 where
 pub wipe_start : (xs : List ℕ) → Wiped xs xs 64
 wipe_start xs = record { size = refl; zeros = λ k a b. absurd (omega arith); low = λ k l. refl; high = λ k l. refl }
 
-pub wipe_on : (xs ys : List ℕ) (i : ℕ) → 64 ≤ i → i < length ys → Wiped xs ys i → Wiped xs (set ys i 0) (i + 1)
-wipe_on xs ys i a l W = record {
-  size = length-set {A = ℕ} ys i 0 ∙ W.size;
-  zeros = λ k b c. go k b c (eq_or k i);
-  low = λ k b. get_or-set_other ys i k 0 0 (omega arith) ∙ W.low k b;
-  high = λ k b. get_or-set_other ys i k 0 0 (omega arith) ∙ W.high k (omega arith);
+-- the part from 64 to e is filled with 0
+pub wipe_part : (xs zs : List ℕ) (e n : ℕ) → 64 ≤ e → e ≤ length xs → length zs ≡ e - 64 → zs ≡ replicate {A = ℕ} n 0 → Wiped xs (put_mid 64 (e - 64) xs zs) e
+wipe_part xs zs e n a l size f = record {
+  size = same_len_mid 64 (e - 64) xs zs (size ∙ sym (mid_len 64 e xs l));
+  zeros = λ k b c. past k b ∙ get_or_append_left zs rest 0 (k - 64) (omega (arith, size)) ∙ ap (λ (ys : List ℕ). get_or ys (k - 64) 0) f ∙ none (k - 64) (lt_or (k - 64) n);
+  low = λ k b. get_or_append_left (take 64 xs) (zs ++ rest) 0 k (omega (arith, front)) ∙ get_or-take 64 xs k 0 b;
+  high = λ k b.
+      past k (omega arith) ∙ get_or-append_right zs rest (e - 64) (k - 64) 0 size (omega arith) ∙ get_or-drop (e - 64) (drop 64 xs) (k - 64 - (e - 64)) 0
+      ∙ get_or-drop 64 xs (e - 64 + (k - 64 - (e - 64))) 0 ∙ ap (λ (j : ℕ). get_or xs j 0) (there k b);
 }
   where
-    go : (k : ℕ) → 64 ≤ k → k < i + 1 → (k ≡ i) ⊎ (k ≡ i → ⊥) → get_or (set ys i 0) k 0 ≡ 0
-    go k b c (inl e) = ap (λ (y : ℕ). get_or (set ys i 0) y 0) e ∙ get_or-set_same ys i 0 0 l
-    go k b c (inr n) = get_or-set_other ys i k 0 0 n ∙ W.zeros k b (omega arith)
+    rest : List ℕ
+    rest = post_of 64 (e - 64) xs
 
--- no byte from the table's end on is cleared
-pub wipe_most : (i e n : ℕ) → (64 < i → i ≤ e) → e ≤ n → 64 ≤ n → i ≤ n
-wipe_most i e n h l m = go (lt_or 64 i)
-  where
-    go : (64 < i) ⊎ (i ≤ 64) → i ≤ n
-    go (inl k) = omega (arith, h k)
-    go (inr k) = omega arith
+    front : length (take 64 xs) ≡ 64
+    front = length-take-le 64 xs (omega arith)
+
+    past : (k : ℕ) → 64 ≤ k → get_or (put_mid 64 (e - 64) xs zs) k 0 ≡ get_or (zs ++ rest) (k - 64) 0
+    past k b = get_or-append_right (take 64 xs) (zs ++ rest) 64 k 0 front b
+
+    there : (k : ℕ) → e ≤ k → 64 + (e - 64 + (k - 64 - (e - 64))) ≡ k
+    there k b = omega arith
+
+    none : (j : ℕ) → (j < n) ⊎ (n ≤ j) → get_or (replicate {A = ℕ} n 0) j 0 ≡ 0
+    none j (inl b) = get_or-replicate {A = ℕ} n j 0 0 b
+    none j (inr b) = get_or-eq_default (replicate {A = ℕ} n 0) 0 (omega (arith, length-replicate {A = ℕ} n 0))
 
 -- ---- numbers of equal bytes
 

@@ -1,5 +1,5 @@
 -- What each call of the table promises, over the arity a.
-use Rattle.std.specs.Prelude.{◌≡◌, cond, ◌&&◌, ◌⊎◌, List, ℕ, suc, ◌+◌, ◌*◌, ◌≤◌, ◌<◌, ltb, leb, length, get_or}
+use Rattle.std.specs.Prelude.{◌≡◌, Option, Some, None, cond, ◌&&◌, ◌⊎◌, List, ℕ, suc, ◌+◌, ◌*◌, ◌≤◌, ◌<◌, ltb, leb, length, get_or}
 use Rattle.calendar_cells.specs.Cells.{word_at}
 use Rattle.calendar_cells.specs.Lists.{rank_of}
 use Rattle.calendar_cells.specs.Table.{due_of, bucket_of, bytes_for, Due, Table}
@@ -36,15 +36,18 @@ abbrev pub NotAfter : ℕ → List ℕ → ℕ → ℕ → ℕ → Type 0
 NotAfter a xs slot h x =
     Before a slot (bucket_of xs h) (bucket_of xs x) ⊎ ((bucket_of xs h ≡ bucket_of xs x) × (rank_of (due_of xs) h ≤ rank_of (due_of xs) x))
 
--- r is the first station in the leaves + 1; 0 where no station stands in a leaf. So many bitmap words are read for it: the roots of the blocks from the
--- slot on to the station's, and a node; all 16 roots where there is none
-pub record First (a : ℕ) (xs : List ℕ) (slot r words : ℕ) : Type 0 where
-  pub none : r ≡ 0 → (x : ℕ) → x < 256 → Due xs x → 16 * (a * a) ≤ bucket_of xs x
-  pub some : (h : ℕ) → r ≡ suc h
-      → (h < 256) × (Due xs h) × (bucket_of xs h < 16 * (a * a))
-      × ((x : ℕ) → x < 256 → Due xs x → bucket_of xs x < 16 * (a * a) → NotAfter a xs slot h x)
-  pub roots : r ≡ 0 → words ≡ 16
-  pub read : (h : ℕ) → r ≡ suc h → words ≡ blocks_to a slot (bucket_of xs h) + 2
+-- h is the first station in the leaves. So many bitmap words are read for it: the roots of the blocks from the slot on to the station's, and a node
+pub record FirstFound (a : ℕ) (xs : List ℕ) (slot h words : ℕ) : Type 0 where
+  pub station : h < 256
+  pub due : Due xs h
+  pub leaf : bucket_of xs h < 16 * (a * a)
+  pub first : (x : ℕ) → x < 256 → Due xs x → bucket_of xs x < 16 * (a * a) → NotAfter a xs slot h x
+  pub read : words ≡ blocks_to a slot (bucket_of xs h) + 2
+
+-- that station; or no station stands in a leaf, and the 16 roots are read
+abbrev pub First : ℕ → List ℕ → ℕ → Option ℕ → ℕ → Type 0
+First a xs slot None words = ((x : ℕ) → x < 256 → Due xs x → 16 * (a * a) ≤ bucket_of xs x) × (words ≡ 16)
+First a xs slot (Some h) words = FirstFound a xs slot h words
 
 -- the table's bytes are 0, and the others but word 7, the row, are as they were; where the buffer is long enough it is a table without stations
 pub record Cleared (a : ℕ) (xs ys : List ℕ) : Type 0 where

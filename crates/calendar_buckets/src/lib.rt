@@ -2,7 +2,7 @@
 
 #![tactic(auto)]
 
-ghost use Rattle.std.specs.Prelude.{◌≡◌, ◌⊎◌, ℕ, suc, ◌+◌, ◌*◌, ◌%◌, ◌≤◌, ◌<◌, length};
+ghost use Rattle.std.specs.Prelude.{◌≡◌, None, IfSome, ◌⊎◌, ℕ, suc, ◌+◌, ◌*◌, ◌%◌, ◌≤◌, ◌<◌, length};
 ghost use Rattle.refusal.specs.Tests.{horizon};
 ghost use Rattle.calendar_shapes.specs.Rule.{arity_in};
 ghost use Rattle.calendar_cells.specs.Table.{due_of, bytes_for, Table};
@@ -123,20 +123,23 @@ pub fn put(b: &mut [u8], s: u32, due: u64, leaf: u32)
     insert(b, row, s, due, list);
 }
 
-// The first station of the first leaf in ring order from a slot on, by (due, station), + 1; 0 where all leaves are empty or the buffer is shorter
-// than a table.
+// The first station of the first leaf in ring order from a slot on, by (due, station); none where all leaves are empty or the buffer is shorter than a
+// table.
 pub fn first(b: &[u8], slot: u32) -> Searched
-    ensures within { (result.at ≤ 256) × (result.words ≤ 17) }
-    ensures short { length b.now < 7656 → (result.at ≡ 0) × (result.words ≡ 16) }
+    ensures within { IfSome result.at (λ s. s < 256) × (result.words ≤ 17) }
+    ensures short { length b.now < 7656 → (result.at ≡ None) × (result.words ≡ 16) }
     ensures first { (a : ℕ) → Table a b.now → First a b.now (slot % 16) result.at result.words }
 {
     if b.len() < BYTES {
-        return Searched { at: 0, words: 16 };
+        return Searched {
+            at: None,
+            words: 16,
+        };
     }
     let row = word(b, 7);
     let f = first_leaf(b, row, slot);
     Searched {
-        at: head(b, f.at),
+        at: f.at.and_then(|l| head(b, l)),
         words: f.words,
     }
 }
@@ -159,9 +162,7 @@ pub fn clear(b: &mut [u8], row: u64)
 {
     set_word(b, 7, row);
     let end = table_end(b.len(), row);
-    let mut i: usize = 64;
-    while i < end {
-        b[i] = 0;
-        i += 1;
+    if 64 < end {
+        b[64..end].fill(0);
     }
 }

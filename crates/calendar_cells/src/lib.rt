@@ -26,39 +26,39 @@ pub const DUES: u64 = 2199023255552;
 pub fn word(b: &[u8], i: u32) -> u64
     ensures { result ≡ word_at i b.now }
 {
-    words::load64(b, 8 * i as usize)
+    words::load::<u64>(b, 8 * i as usize)
 }
 
 pub fn set_word(b: &mut [u8], i: u32, v: u64)
     ensures { b.new ≡ put_word i v b.old }
 {
-    words::store64(b, 8 * i as usize, v);
+    words::store::<u64>(b, 8 * i as usize, v);
 }
 
 // The place before the station of number k - 1.
 pub fn back(b: &[u8], k: u32) -> u32
     ensures { result ≡ back_at k b.now }
 {
-    words::load32(b, 2272 + 4 * k as usize)
+    words::load::<u32>(b, 2272 + 4 * k as usize)
 }
 
 pub fn set_back(b: &mut [u8], k: u32, v: u32)
     ensures { b.new ≡ put_back k v b.old }
 {
-    words::store32(b, 2272 + 4 * k as usize, v);
+    words::store::<u32>(b, 2272 + 4 * k as usize, v);
 }
 
 // Where place p leads to.
 pub fn link(b: &[u8], p: u32) -> u16
     ensures { result ≡ link_at p b.now }
 {
-    words::load16(b, 3304 + 2 * p as usize)
+    words::load::<u16>(b, 3304 + 2 * p as usize)
 }
 
 pub fn set_link(b: &mut [u8], p: u32, v: u16)
     ensures { b.new ≡ put_link p v b.old }
 {
-    words::store16(b, 3304 + 2 * p as usize, v);
+    words::store::<u16>(b, 3304 + 2 * p as usize, v);
 }
 
 // The word of node 0.

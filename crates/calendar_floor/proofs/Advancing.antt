@@ -5,10 +5,10 @@ use mathlib.Core.List.{List}
 use Prim.Native.Nat.{ℕ, ◌≤◌, ◌<◌}
 use native.Mathlib.Omega.{arith}
 use borrow.Author.Tests.{lt-ltb, le-ltb}
+use Rattle.refusal.specs.declared.Refusal.{Refusal}
 use Rattle.refusal.specs.declared.Refusal.TheVariants.{Late, Early, Unrun}
 use Rattle.refusal.specs.Tests.{or_next, judged}
-use Rattle.calendar_answers.specs.declared.Answer.{Answer}
-use Rattle.calendar_answers.specs.declared.Answer.TheVariants.{Done, Refused}
+use Rattle.std.specs.Prelude.{Result, Ok, Err}
 use Rattle.calendar_header.specs.Rules.{any_before, advance_checks, advanced}
 use Rattle.calendar_header.specs.Bytes.{floor_of, count_of, SoundAt, Sound, state_of, width_of, times_from}
 use Rattle.calendar_header.specs.Promises.{Obeys}
@@ -36,27 +36,27 @@ module _ {a : ℕ} (xs ys : List ℕ) (S : SoundAt a xs) where
 -- ---- advance
 
 module _ (xs : List ℕ) (f : ℕ) where
-  abbrev ToAdvance : Answer → List ℕ → Type 0
+  abbrev ToAdvance : Result Unit Refusal → List ℕ → Type 0
   ToAdvance r ys = Obeys (λ q. advance_checks q f) (λ q. advanced q f) xs r ys
 
-  pub advance_11 : 1099511627776 < f → ToAdvance (Refused Late) xs
+  pub advance_11 : 1099511627776 < f → ToAdvance (Err Late) xs
   unfolding judged or_next
   advance_11 h = obeys_refused (λ q. advance_checks q f) (λ q. advanced q f) xs Late (λ S. rw (lt-ltb 1099511627776 f h))
 
   module _ (h : f ≤ 1099511627776) where
-    pub advance_12 : f < floor_of xs → ToAdvance (Refused Early) xs
+    pub advance_12 : f < floor_of xs → ToAdvance (Err Early) xs
     unfolding judged or_next
     advance_12 k =
         obeys_refused (λ q. advance_checks q f) (λ q. advanced q f) xs Early (λ S. rw (le-ltb 1099511627776 f h, state_floor, lt-ltb f (floor_of xs) k))
 
     module _ (k : floor_of xs ≤ f) where
-      pub advance_15 : (Sound xs → true ≡ any_before f (state_of xs).times) → ToAdvance (Refused Unrun) xs
+      pub advance_15 : (Sound xs → true ≡ any_before f (state_of xs).times) → ToAdvance (Err Unrun) xs
       unfolding judged or_next
       advance_15 a =
           obeys_refused (λ q. advance_checks q f) (λ q. advanced q f) xs Unrun
           (λ S. rw (le-ltb 1099511627776 f h, state_floor, le-ltb f (floor_of xs) k, ← a S))
 
-      pub advance_done : (ys : List ℕ) → (Sound xs → false ≡ any_before f (state_of xs).times) → (Sound xs → Risen (arity_of xs) f xs ys) → ToAdvance Done ys
+      pub advance_done : (ys : List ℕ) → (Sound xs → false ≡ any_before f (state_of xs).times) → (Sound xs → Risen (arity_of xs) f xs ys) → ToAdvance (Ok tt) ys
       unfolding judged or_next
       advance_done ys a R =
           obeys_done (λ q. advance_checks q f) (λ q. advanced q f) xs ys

@@ -2,11 +2,12 @@
 use mathlib.Core.Path.{◌≡◌, refl, sym, ap, ◌∙◌, subst}
 use mathlib.Core.Logic.{◌⊎◌, inl, inr}
 use mathlib.Core.List.{List}
+use Rattle.std.specs.Prelude.{Some, None}
 use Prim.Native.Nat.{ℕ, suc, ◌+◌, ◌-◌, ◌*◌, ◌≤◌, ◌<◌}
 use native.Mathlib.Omega.{arith}
 use Rattle.calendar_cells.specs.Table.{arity_of, due_of, bucket_of, Due, Table, Waits}
 use Rattle.calendar_buckets.specs.Promises.{bucket_for, Kept, Placed}
-use Rattle.calendar_search.specs.Promises.{Later}
+use Rattle.calendar_search.specs.Promises.{NoneTo, Later}
 use Rattle.calendar_buckets.proofs.Takes.{kept_same}
 use Rattle.words.proofs.Cases.{eq_or, lt_or}
 use Rattle.calendar_ring.specs.Ring.{leaf_for}
@@ -48,11 +49,11 @@ settling_from a from k xs h S = record {
         side (inr q) = inr (e.0, q)
 
 -- none waits before the one that is found
-skipped : (a from s : ℕ) (xs : List ℕ) → Later a xs from s → Settling a from xs → Settling a s xs
+skipped : (a from s : ℕ) (xs : List ℕ) → NoneTo a xs from s → Settling a from xs → Settling a s xs
 skipped a from s xs L = settling_from a from s xs (λ x l W h. go x l W h (lt_or x s))
   where
     go : (x : ℕ) → x < 256 → Waits a xs x → from ≤ x → (x < s) ⊎ (s ≤ x) → (bucket_of xs x ≡ home_of a xs x) ⊎ (s ≤ x)
-    go x l W h (inl k) = absurd (L.before x h l k W)
+    go x l W h (inl k) = absurd (L x h l k W)
     go x l W h (inr k) = inr k
 
 -- ---- fetch
@@ -123,16 +124,16 @@ SettledTo a from xs ys = Settling a 0 xs → Same xs ys × Settling a from ys
 pub settle_start : (a : ℕ) (xs : List ℕ) → SettledTo a 0 xs xs
 settle_start a xs S = (same_self xs, S)
 
-pub settle_step : (a : ℕ) (xs ys zs : List ℕ) (from s : ℕ) → SettledTo a from xs ys → (Table a ys → Later a ys from s) → s < 256
+pub settle_step : (a : ℕ) (xs ys zs : List ℕ) (from s : ℕ) → SettledTo a from xs ys → (Table a ys → Later a ys from (Some s))
     → (Settling a s ys → Waits a ys s → Moved a s ys zs) → SettledTo a (s + 1) xs zs
-settle_step a xs ys zs from s W L ls M S =
+settle_step a xs ys zs from s W L M S =
     let w = W S in
     let l = L w.1.table in
-    let m = M (skipped a from s ys l w.1) (l.waits ls) in
+    let m = M (skipped a from s ys l.2 w.1) l.1 in
     let e : suc s ≡ s + 1 = omega arith in
     (same_then w.0 m.same, subst (λ (k : ℕ). Settling a k zs) e m.settling)
 
-pub settle_end : (a : ℕ) (xs ys : List ℕ) (from : ℕ) → SettledTo a from xs ys → 256 ≤ from → Settling a 0 xs → Settled a xs ys
+settle_end : (a : ℕ) (xs ys : List ℕ) (from : ℕ) → SettledTo a from xs ys → 256 ≤ from → Settling a 0 xs → Settled a xs ys
 settle_end a xs ys from W h S =
     let T = (W S).1 in
     record {
@@ -151,5 +152,5 @@ settle_end a xs ys from W h S =
     go x l (inl e) = e
     go x l (inr e) = absurd (omega (arith, e.1))
 
-pub settle_none : (a : ℕ) (xs ys : List ℕ) (from s : ℕ) → SettledTo a from xs ys → (Table a ys → Later a ys from s) → 256 ≤ s → Settling a 0 xs → Settled a xs ys
-settle_none a xs ys from s W L h S = settle_end a xs ys s (λ S. ((W S).0, skipped a from s ys (L (W S).1.table) (W S).1)) h S
+pub settle_none : (a : ℕ) (xs ys : List ℕ) (from : ℕ) → SettledTo a from xs ys → (Table a ys → Later a ys from None) → Settling a 0 xs → Settled a xs ys
+settle_none a xs ys from W L S = settle_end a xs ys 256 (λ S. ((W S).0, skipped a from 256 ys (L (W S).1.table) (W S).1)) (omega arith) S

@@ -9,7 +9,6 @@ ghost use Rattle.calendar_header.specs.Bytes.{floor_of, SoundAt, Sound, state_of
 ghost use Rattle.calendar_header.specs.Promises.{Obeys};
 ghost use Rattle.calendar_floor.specs.Steps.{Moved, Settling, Settled, Risen};
 
-use calendar_answers::{Answer, Least};
 use calendar_cells::{set_word, word};
 use calendar_header::{END, FLOOR, LIMIT, SLOT, START, WIDTH, block_leaves, leaf};
 use calendar_naming::lowest;
@@ -36,11 +35,7 @@ fn settle(b: &mut [u8])
     ensures { (a : ℕ) → Settling a 0 b.old → Settled a b.old b.new }
 {
     let mut from: u32 = 0;
-    while from < 256 {
-        let s = calendar_buckets::later(b, from);
-        if 256 <= s {
-            return;
-        }
+    while let Some(s) = calendar_buckets::later(b, from) {
         fetch(b, s);
         from = s + 1;
     }
@@ -86,30 +81,22 @@ fn rise(b: &mut [u8], floor: u64)
 fn early(b: &[u8], floor: u64) -> bool
     ensures { Sound b.now → result ≡ any_before floor (state_of b.now).times }
 {
-    let at = lowest(b);
-    match at {
-        Least::At {
-            station: _,
-            time,
-            words: _,
-        } => time < floor,
-        Least::Refused(_) => false,
-    }
+    lowest(b).is_ok_and(|at| at.time < floor)
 }
 
 // The floor is advanced, and the ring with it.
-pub fn advance(b: &mut [u8], floor: u64) -> Answer
+pub fn advance(b: &mut [u8], floor: u64) -> Result<(), Refusal>
     ensures { Obeys (λ q. advance_checks q floor) (λ q. advanced q floor) b.old result b.new }
 {
     if HORIZON + 1 < floor {
-        return Answer::Refused(Refusal::Late);
+        return Err(Refusal::Late);
     }
     if floor < word(b, FLOOR) {
-        return Answer::Refused(Refusal::Early);
+        return Err(Refusal::Early);
     }
     if early(b, floor) {
-        return Answer::Refused(Refusal::Unrun);
+        return Err(Refusal::Unrun);
     }
     rise(b, floor);
-    Answer::Done
+    Ok(())
 }

@@ -1,5 +1,5 @@
 -- What each call on a bucket's list promises.
-use Rattle.std.specs.Prelude.{◌≡◌, List, ℕ, suc, ◌+◌, ◌*◌, ◌≤◌, ◌<◌, length}
+use Rattle.std.specs.Prelude.{◌≡◌, Option, Some, None, List, ℕ, suc, ◌+◌, ◌*◌, ◌≤◌, ◌<◌, length}
 use Rattle.calendar_cells.specs.Cells.{word_at, back_at, link_at}
 use Rattle.calendar_cells.specs.Lists.{Live, Lists, list_of, rank_of}
 use Rattle.calendar_cells.specs.Table.{due_of, bucket_of, next_place, prev_place, bucket_head, Due}
@@ -26,8 +26,13 @@ pub record Joined (p n : ℕ) (xs ys : List ℕ) : Type 0 where
   pub links : (k : ℕ) → (k ≡ p → ⊥) → link_at k ys ≡ link_at k xs
   pub backs : (k : ℕ) → k < 257 → (k ≡ n → ⊥) → back_at k ys ≡ back_at k xs
 
--- r is the first station of a bucket + 1, or 0
-pub record HeadOf (xs : List ℕ) (list r : ℕ) : Type 0 where
-  pub is : r ≡ bucket_head xs list
-  pub station : (h : ℕ) → r ≡ suc h → (h < 256) × (Due xs h) × (bucket_of xs h ≡ list)
-  pub least : (h : ℕ) → r ≡ suc h → (x : ℕ) → x < 256 → Due xs x → bucket_of xs x ≡ list → rank_of (due_of xs) h ≤ rank_of (due_of xs) x
+-- h is the first station of a bucket
+pub record Heads (xs : List ℕ) (list h : ℕ) : Type 0 where
+  pub is : bucket_head xs list ≡ suc h
+  pub station : (h < 256) × (Due xs h) × (bucket_of xs h ≡ list)
+  pub least : (x : ℕ) → x < 256 → Due xs x → bucket_of xs x ≡ list → rank_of (due_of xs) h ≤ rank_of (due_of xs) x
+
+-- that station, or none
+abbrev pub HeadOf : List ℕ → ℕ → Option ℕ → Type 0
+HeadOf xs list None = bucket_head xs list ≡ 0
+HeadOf xs list (Some h) = Heads xs list h

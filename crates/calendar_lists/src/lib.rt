@@ -2,7 +2,7 @@
 
 #![tactic(auto)]
 
-ghost use Rattle.std.specs.Prelude.{◌≡◌, ◌⊎◌, ℕ, ◌+◌, ◌*◌, ◌≤◌, ◌<◌};
+ghost use Rattle.std.specs.Prelude.{◌≡◌, None, IfSome, ◌⊎◌, ℕ, ◌+◌, ◌*◌, ◌≤◌, ◌<◌};
 ghost use Rattle.calendar_cells.specs.Lists.{rank_of};
 ghost use Rattle.calendar_cells.specs.Table.{due_of, Table};
 ghost use Rattle.calendar_lists.specs.Promises.{Chained, Place, Joined, HeadOf};
@@ -31,6 +31,7 @@ pub fn find(b: &[u8], list: u32, k: u64) -> u32
     let mut p = 256 + list;
     let mut n = link(b, p) as u32;
     let mut last: u64 = 0;
+    // Kept: a turn goes on along the list's links, so that no index is counted
     loop {
         if n == 0 {
             return p;
@@ -67,18 +68,21 @@ pub fn join(b: &mut [u8], p: u32, n: u16)
     set_back(b, n as u32, p);
 }
 
-// The first station of a bucket + 1; 0 where the bucket is empty or there is no such bucket.
-pub fn head(b: &[u8], list: u32) -> u32
-    ensures within { result ≤ 256 }
-    ensures none { 65792 ≤ list → result ≡ 0 }
+// The first station of a bucket; none where the bucket is empty or there is no such bucket.
+pub fn head(b: &[u8], list: u32) -> Option<u32>
+    ensures within { IfSome result (λ h. h < 256) }
+    ensures none { 65792 ≤ list → result ≡ None }
     ensures first { (a : ℕ) → list < 65792 → list < 16 * (a * a) + 256 → Table a b.now → HeadOf b.now list result }
 {
     if 65792 <= list {
-        return 0;
+        return None;
     }
     let h = link(b, 256 + list) as u32;
-    if 256 < h {
-        return 0;
+    if h == 0 {
+        return None;
     }
-    h
+    if 256 < h {
+        return None;
+    }
+    Some(h - 1)
 }

@@ -2,6 +2,7 @@
 use mathlib.Core.Path.{◌≡◌, sym, ap, ◌∙◌, subst}
 use mathlib.Core.Logic.{◌⊎◌, inl, inr}
 use mathlib.Core.List.{List}
+use Rattle.std.specs.Prelude.{Option, Some, None, IfSome, MatchOption}
 use Prim.Native.Nat.{ℕ, suc, ◌+◌, ◌-◌, ◌*◌, ◌/◌, ◌%◌, ◌≤◌, ◌<◌}
 use native.Mathlib.Nat.{mul-pos, mod-lt, div-div-eq-div-mul, div-add-mod'}
 use native.Mathlib.Omega.{arith}
@@ -9,13 +10,13 @@ use lib.Arith.{digits_div, digits_mod}
 use Rattle.calendar_cells.specs.Lists.{rank_of}
 use Rattle.calendar_cells.specs.Table.{due_of, bucket_of, Due, Waits}
 use Rattle.calendar_search.specs.Promises.{blocks_to, Before}
-use Rattle.calendar_buckets.specs.Promises.{NotAfter, First}
+use Rattle.calendar_buckets.specs.Promises.{NotAfter, FirstFound, First}
 use Rattle.words.proofs.Cases.{eq_or, lt_or}
 use Rattle.calendar_cells.proofs.Places.{rank_station}
 use Rattle.calendar_ring.specs.Ring.{block_of, slot_of_time, leaf_in, ring_end}
 use Rattle.calendar_ring.proofs.Blocks.{div_mono, block_mono, block_in}
 use Rattle.calendar_header.specs.Bytes.{width_of, floor_of, slot_in, SoundAt}
-use Rattle.calendar_naming.specs.Steps.{FirstOf, Nearest}
+use Rattle.calendar_naming.specs.Steps.{FirstAt, FirstOf, Nearest}
 use Rattle.calendar_header.proofs.Leaves.{ring_leaf}
 use Rattle.calendar_header.proofs.Homes.{arity_pos, in_ring, over_ring}
 
@@ -96,38 +97,54 @@ module _ {a : ℕ} (xs : List ℕ) (S : SoundAt a xs) where
   slot_mod slot e = omega (arith, S.header.slot_is)
 
   -- where a leaf is filled, the first in the leaves is the first
-  pub first_leaves : (slot r words : ℕ) → slot ≡ slot_in xs → First a xs (slot % 16 % 16) r words → (r ≡ 0 → ⊥) → FirstOf a xs r words
-  first_leaves slot r words es F nz = record {
-    none = λ z. absurd (nz z);
-    some = λ h e. ((F.some h e).0, (F.some h e).1, λ x lx rx. go h e x lx rx (lt_or (bucket_of xs x) (16 * (a * a))));
-    ring = λ h e _.
-        F.read h e ∙ ap (λ (s : ℕ). blocks_to a s (bucket_of xs h) + 2) (slot_mod slot es)
-        ∙ ap (λ (y : ℕ). y + 2) (blocks_to_lem h (F.some h e).0 (F.some h e).1 (F.some h e).2);
-    over = λ h e q. absurd (omega (arith, (in_ring xs S h (F.some h e).0 (F.some h e).1 (F.some h e).2).0));
+  first_leaves : (slot h words : ℕ) → slot ≡ slot_in xs → FirstFound a xs (slot % 16 % 16) h words → FirstAt xs a h words
+  first_leaves slot h words es F = record {
+    station = F.station;
+    due = F.due;
+    least = λ x lx rx. go x lx rx (lt_or (bucket_of xs x) (16 * (a * a)));
+    ring = λ _.
+        F.read ∙ ap (λ (s : ℕ). blocks_to a s (bucket_of xs h) + 2) (slot_mod slot es)
+        ∙ ap (λ (y : ℕ). y + 2) (blocks_to_lem h F.station F.due F.leaf);
+    over = λ q. absurd (omega (arith, (in_ring xs S h F.station F.due F.leaf).0));
   }
     where
-      go : (h : ℕ) → r ≡ suc h → (x : ℕ) → x < 256 → Due xs x → (bucket_of xs x < 16 * (a * a)) ⊎ (16 * (a * a) ≤ bucket_of xs x)
+      go : (x : ℕ) → x < 256 → Due xs x → (bucket_of xs x < 16 * (a * a)) ⊎ (16 * (a * a) ≤ bucket_of xs x)
           → rank_of (due_of xs) h ≤ rank_of (due_of xs) x
-      go h e x lx rx (inl b) =
-          let f = F.some h e in
-          not_after h x f.0 lx f.1 rx f.2 b (subst (λ (s : ℕ). NotAfter a xs s h x) (slot_mod slot es) (f.3 x lx rx b))
-      go h e x lx rx (inr b) =
-          let f = F.some h e in
-          let R = in_ring xs S h f.0 f.1 f.2 in
-          rank_before (due_of xs) h x f.0 lx (omega (arith, f.1, over_ring xs S x lx rx b, R.0))
+      go x lx rx (inl b) =
+          not_after h x F.station lx F.due rx F.leaf b (subst (λ (s : ℕ). NotAfter a xs s h x) (slot_mod slot es) (F.first x lx rx b))
+      go x lx rx (inr b) =
+          let R = in_ring xs S h F.station F.due F.leaf in
+          rank_before (due_of xs) h x F.station lx (omega (arith, F.due, over_ring xs S x lx rx b, R.0))
 
   -- where none is, the nearest of the overflow table
-  pub first_over : (slot r words r' : ℕ) → First a xs slot r words → r ≡ 0 → Nearest a xs 256 r' → FirstOf a xs r' words
-  first_over slot r words r' F z N = record {
-    none = λ e x lx. go e x lx (eq_or (due_of xs x) 0);
-    some = λ h e. ((N.some h e).0, (N.some h e).1.0, λ x lx rx. (N.some h e).2 x lx lx (waits x lx rx));
-    ring = λ h e q. absurd (omega (arith, over_ring xs S h (N.some h e).0 (N.some h e).1.0 (omega (arith, (N.some h e).1.1))));
-    over = λ h e _. F.roots z;
-  }
+  first_over : (slot words : ℕ) → First a xs slot None words → (r : Option ℕ) → Nearest a xs 256 r → FirstOf a xs r words
+  first_over slot words F = by
     where
       waits : (x : ℕ) → x < 256 → Due xs x → Waits a xs x
-      waits x lx rx = (rx, S.table.own x lx rx (F.none z x lx rx))
+      waits x lx rx = (rx, S.table.own x lx rx (F.0 x lx rx))
 
-      go : r' ≡ 0 → (x : ℕ) → x < 256 → (due_of xs x ≡ 0) ⊎ (due_of xs x ≡ 0 → ⊥) → due_of xs x ≡ 0
-      go e x lx (inl q) = q
-      go e x lx (inr q) = absurd (N.none e x lx lx (waits x lx q))
+      by : (r : Option ℕ) → Nearest a xs 256 r → FirstOf a xs r words
+      by None N = λ x lx. go x lx (eq_or (due_of xs x) 0)
+        where
+          go : (x : ℕ) → x < 256 → (due_of xs x ≡ 0) ⊎ (due_of xs x ≡ 0 → ⊥) → due_of xs x ≡ 0
+          go x lx (inl q) = q
+          go x lx (inr q) = absurd (N x lx lx (waits x lx q))
+      by (Some h) N = record {
+        station = N.0;
+        due = N.1.0;
+        least = λ x lx rx. N.2 x lx lx (waits x lx rx);
+        ring = λ q. absurd (omega (arith, over_ring xs S h N.0 N.1.0 (omega (arith, N.1.1))));
+        over = λ _. F.1;
+      }
+
+  -- the first in the leaves, or else the nearest of the overflow table
+  pub first_of : (slot words : ℕ) (f r : Option ℕ) → slot ≡ slot_in xs → First a xs (slot % 16 % 16) f words
+      → MatchOption f (IfSome r (λ h. h < 256) × (SoundAt a xs → Nearest a xs 256 r)) (λ h. r ≡ Some h) → FirstOf a xs r words
+  first_of slot words None r es F N = first_over (slot % 16 % 16) words F r (N.1 S)
+  first_of slot words (Some h) r es F e = rw e (first_leaves slot h words es F)
+
+-- what is named is a station
+pub at_within : (f r : Option ℕ) (P : Type 0) → IfSome f (λ h. h < 256) → MatchOption f (IfSome r (λ h. h < 256) × P) (λ h. r ≡ Some h)
+    → IfSome r (λ h. h < 256)
+at_within None r P l h = h.0
+at_within (Some k) r P l e = rw e l

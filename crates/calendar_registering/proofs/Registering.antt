@@ -2,12 +2,12 @@
 use mathlib.Core.List.{List}
 use Prim.Native.Nat.{ℕ, suc, ◌≤◌, ◌<◌}
 use borrow.Author.Tests.{lt-ltb, le-ltb, le-leb, lt-leb}
+use Rattle.refusal.specs.declared.Refusal.{Refusal}
 use Rattle.refusal.specs.declared.Refusal.TheVariants.{Station, Late, Early}
 use Rattle.refusal.specs.Tests.{or_next, judged}
 use Rattle.calendar_cells.specs.Table.{arity_of, Table}
 use Rattle.calendar_buckets.specs.Promises.{Kept, Gone}
-use Rattle.calendar_answers.specs.declared.Answer.{Answer}
-use Rattle.calendar_answers.specs.declared.Answer.TheVariants.{Done, Refused}
+use Rattle.std.specs.Prelude.{Result, Ok, Err}
 use Rattle.calendar_header.specs.Rules.{register_checks, registered_at, unregister_checks, unregistered}
 use Rattle.calendar_header.specs.Bytes.{floor_of, count_of, Sound, time_for}
 use Rattle.calendar_header.specs.Promises.{Obeys}
@@ -20,28 +20,28 @@ use Rattle.calendar_header.proofs.Obeying.{obeys_refused, obeys_done}
 -- ---- register
 
 module _ (xs : List ℕ) (s t : ℕ) where
-  abbrev ToRegister : Answer → List ℕ → Type 0
+  abbrev ToRegister : Result Unit Refusal → List ℕ → Type 0
   ToRegister r ys = Obeys (λ q. register_checks q s t) (λ q. registered_at q s t) xs r ys
 
-  pub register_9 : (Sound xs → count_of xs ≤ s) → ToRegister (Refused Station) xs
+  pub register_9 : (Sound xs → count_of xs ≤ s) → ToRegister (Err Station) xs
   unfolding judged or_next
   register_9 h = obeys_refused (λ q. register_checks q s t) (λ q. registered_at q s t) xs Station (λ S. rw (state_length, le-leb (count_of xs) s (h S)))
 
   module _ (h : Sound xs → s < count_of xs) where
-    pub register_11 : 1099511627775 < t → ToRegister (Refused Late) xs
+    pub register_11 : 1099511627775 < t → ToRegister (Err Late) xs
     unfolding judged or_next
     register_11 k =
         obeys_refused (λ q. register_checks q s t) (λ q. registered_at q s t) xs Late
         (λ S. rw (state_length, lt-leb (count_of xs) s (h S), lt-ltb 1099511627775 t k))
 
     module _ (k : t ≤ 1099511627775) where
-      pub register_12 : t < floor_of xs → ToRegister (Refused Early) xs
+      pub register_12 : t < floor_of xs → ToRegister (Err Early) xs
       unfolding judged or_next
       register_12 l =
           obeys_refused (λ q. register_checks q s t) (λ q. registered_at q s t) xs Early
           (λ S. rw (state_length, lt-leb (count_of xs) s (h S), le-ltb 1099511627775 t k, state_floor, lt-ltb t (floor_of xs) l))
 
-      pub register_done : (ys : List ℕ) → floor_of xs ≤ t → (Sound xs → s < count_of xs → floor_of xs ≤ t → Entered (arity_of xs) s (suc t) xs ys) → ToRegister Done ys
+      pub register_done : (ys : List ℕ) → floor_of xs ≤ t → (Sound xs → s < count_of xs → floor_of xs ≤ t → Entered (arity_of xs) s (suc t) xs ys) → ToRegister (Ok tt) ys
       unfolding judged or_next time_for
       register_done ys l E =
           obeys_done (λ q. register_checks q s t) (λ q. registered_at q s t) xs ys
@@ -51,14 +51,14 @@ module _ (xs : List ℕ) (s t : ℕ) where
 -- ---- unregister
 
 module _ (xs : List ℕ) (s : ℕ) where
-  abbrev ToUnregister : Answer → List ℕ → Type 0
+  abbrev ToUnregister : Result Unit Refusal → List ℕ → Type 0
   ToUnregister r ys = Obeys (λ q. unregister_checks q s) (λ q. unregistered q s) xs r ys
 
-  pub unregister_9 : (Sound xs → count_of xs ≤ s) → ToUnregister (Refused Station) xs
+  pub unregister_9 : (Sound xs → count_of xs ≤ s) → ToUnregister (Err Station) xs
   unfolding judged or_next
   unregister_9 h = obeys_refused (λ q. unregister_checks q s) (λ q. unregistered q s) xs Station (λ S. rw (state_length, le-leb (count_of xs) s (h S)))
 
-  pub unregister_done : (ys : List ℕ) → (Sound xs → s < count_of xs) → s < 256 → Kept xs ys → ((a : ℕ) → Table a xs → s < 256 → Gone a s xs ys) → ToUnregister Done ys
+  pub unregister_done : (ys : List ℕ) → (Sound xs → s < count_of xs) → s < 256 → Kept xs ys → ((a : ℕ) → Table a xs → s < 256 → Gone a s xs ys) → ToUnregister (Ok tt) ys
   unfolding judged or_next time_for
   unregister_done ys h l K G =
       obeys_done (λ q. unregister_checks q s) (λ q. unregistered q s) xs ys (λ S. rw (state_length, lt-leb (count_of xs) s (h S)))

@@ -2,14 +2,15 @@
 
 #![tactic(auto)]
 
-ghost use Rattle.std.specs.Prelude.{suc, ◌≤◌, ◌<◌};
+ghost use Rattle.std.specs.Prelude.{◌≡◌, suc, ◌≤◌, ◌<◌, MatchResult};
+ghost use Rattle.refusal.specs.declared.Refusal.TheVariants.{Station};
 ghost use Rattle.calendar_cells.specs.Table.{arity_of};
 ghost use Rattle.calendar_header.specs.Rules.{register_checks, registered_at, unregister_checks, unregistered};
 ghost use Rattle.calendar_header.specs.Bytes.{floor_of, count_of, Sound};
 ghost use Rattle.calendar_header.specs.Promises.{Obeys, Extracts};
 ghost use Rattle.calendar_registering.specs.Steps.{Entered};
 
-use calendar_answers::{Answer, Least};
+use calendar_answers::Least;
 use calendar_cells::word;
 use calendar_header::{FLOOR, leaf, stations};
 use calendar_naming::lowest;
@@ -28,53 +29,46 @@ fn enter(b: &mut [u8], s: u32, time: u64)
     calendar_buckets::put(b, s, time + 1, l);
 }
 
-// A station is registered at a time, or moved to it.
-pub fn register(b: &mut [u8], station: u64, time: u64) -> Answer
-    ensures { Obeys (λ q. register_checks q station time) (λ q. registered_at q station time) b.old result b.new }
+// The number of a station that the calendar has.
+fn station_in(b: &[u8], station: u64) -> Result<u32, Refusal>
+    ensures { MatchResult result (λ s. (s ≡ station) × (s < 256) × (Sound b.now → s < count_of b.now))
+        (λ e. (e ≡ Station) × (Sound b.now → count_of b.now ≤ station)) }
 {
     if stations(b) <= station {
-        return Answer::Refused(Refusal::Station);
+        return Err(Refusal::Station);
     }
+    Ok(station as u32)
+}
+
+// A station is registered at a time, or moved to it.
+pub fn register(b: &mut [u8], station: u64, time: u64) -> Result<(), Refusal>
+    ensures { Obeys (λ q. register_checks q station time) (λ q. registered_at q station time) b.old result b.new }
+{
+    let s = station_in(b, station)?;
     if HORIZON < time {
-        return Answer::Refused(Refusal::Late);
+        return Err(Refusal::Late);
     }
     if time < word(b, FLOOR) {
-        return Answer::Refused(Refusal::Early);
+        return Err(Refusal::Early);
     }
-    enter(b, station as u32, time);
-    Answer::Done
+    enter(b, s, time);
+    Ok(())
 }
 
 // A station is no longer registered; an absent one stays so.
-pub fn unregister(b: &mut [u8], station: u64) -> Answer
+pub fn unregister(b: &mut [u8], station: u64) -> Result<(), Refusal>
     ensures { Obeys (λ q. unregister_checks q station) (λ q. unregistered q station) b.old result b.new }
 {
-    if stations(b) <= station {
-        return Answer::Refused(Refusal::Station);
-    }
-    let s = station as u32;
+    let s = station_in(b, station)?;
     calendar_buckets::take(b, s);
-    Answer::Done
+    Ok(())
 }
 
 // The station of the least registered time is no longer registered; the answer is that of lowest.
-pub fn extract(b: &mut [u8]) -> Least
+pub fn extract(b: &mut [u8]) -> Result<Least, Refusal>
     ensures { Extracts b.old result b.new }
 {
-    let at = lowest(b);
-    match at {
-        Least::At {
-            station,
-            time,
-            words,
-        } => {
-            calendar_buckets::take(b, station as u32);
-            Least::At {
-                station,
-                time,
-                words,
-            }
-        }
-        Least::Refused(e) => Least::Refused(e),
-    }
+    let at = lowest(b)?;
+    calendar_buckets::take(b, at.station as u32);
+    Ok(at)
 }

@@ -2,6 +2,7 @@
 use mathlib.Core.Path.{◌≡◌, refl, sym, ap, ◌∙◌, subst}
 use mathlib.Core.Logic.{◌⊎◌, inl, inr}
 use mathlib.Core.List.{List}
+use Rattle.std.specs.Prelude.{Some, None}
 use Prim.Native.Nat.{ℕ, suc, ◌+◌, ◌*◌, ◌/◌, ◌%◌, ◌^◌, ◌≤◌, ◌<◌}
 use native.Mathlib.Nat.{mul-pos, div-div-eq-div-mul, div-add-mod', div-lt_iff_lt-mul, mul_assoc, mul-le-mul_right, suc-mul}
 use native.Mathlib.Omega.{arith}
@@ -15,7 +16,7 @@ use Rattle.words.proofs.Cases.{eq_or, lt_or}
 use Rattle.calendar_cells.specs.Cells.{word_at}
 use Rattle.calendar_cells.specs.Tree.{Sums}
 use Rattle.calendar_cells.specs.Table.{node_word, root_of, bucket_head, Table}
-use Rattle.calendar_search.specs.Promises.{blocks_to, FirstLeaf}
+use Rattle.calendar_search.specs.Promises.{blocks_to, LeafFound, FirstLeaf}
 use Rattle.calendar_search.specs.Steps.{LeafUnder}
 use Rattle.calendar_cells.proofs.TreeLaws.{set_above, some_above, some_below}
 use Rattle.calendar_cells.proofs.TableLaws.{table_sizes, table_arity}
@@ -156,14 +157,12 @@ module _ (a : ℕ) (xs : List ℕ) (T : Table a xs) where
   pub clear_start : (slot : ℕ) → Clear slot 0
   clear_start slot k l f = omega arith
 
-  pub clear_end : (slot i : ℕ) → 16 ≤ i → Clear slot i → FirstLeaf a xs slot 65792 16
-  clear_end slot i h P = record {
-    out = λ _. refl;
-    roots = λ _. refl;
-    read = λ l. absurd (omega (arith, (table_sizes T).most));
-    filled = λ l. absurd (omega (arith, (table_sizes T).most));
-    first = λ k l f. absurd (let p = P k l f in omega arith);
-  }
+  pub clear_end : (slot i : ℕ) → 16 ≤ i → Clear slot i → FirstLeaf a xs slot None 16
+  clear_end slot i h P = (λ k l. go k l (eq_or (bucket_head xs k) 0), refl)
+    where
+      go : (k : ℕ) → k < 16 * (a * a) → (bucket_head xs k ≡ 0) ⊎ (bucket_head xs k ≡ 0 → ⊥) → bucket_head xs k ≡ 0
+      go k l (inl e) = e
+      go k l (inr f) = absurd (let p = P k l f in omega arith)
 
   module _ (slot i x : ℕ) (ls : slot < 16) (li : i < 16) (P : Clear slot i) (ex : x ≡ root_of xs ((slot + i) % 16)) where
     pub clear_on : x ≡ 0 → Clear slot (i + 1)
@@ -181,15 +180,14 @@ module _ (a : ℕ) (xs : List ℕ) (T : Table a xs) where
       nz' : root_of xs ((slot + i) % 16) ≡ 0 → ⊥
       nz' z = nz (ex ∙ z)
 
-      pub clear_stop : FirstLeaf a xs slot (((slot + i) % 16 * a + f) * a + g) (i + 2)
+      pub clear_stop : LeafFound a xs slot (((slot + i) % 16 * a + f) * a + g) (i + 2)
       clear_stop = record {
-        out = λ h. absurd (omega (arith, lt));
-        roots = λ h. absurd (omega (arith, lt));
-        read = λ _. ap (λ (m : ℕ). m + 2) (sym here);
-        filled = λ _.
+        within = lt;
+        read = ap (λ (m : ℕ). m + 2) (sym here);
+        filled =
             filled a pa' (16 * (a * a) + 256) (16 * a + 32) (omega arith) (omega arith) (bucket_head xs) (node_word a xs) (root_of xs) T.tree.leaves T.tree.nodes
             slot i ls li P f g nz' F' G';
-        first = λ k l fk. (lt, go k l fk (eq_or (blocks_to a slot k) i));
+        first = λ k l fk. go k l fk (eq_or (blocks_to a slot k) i);
       }
         where
           lt : ((slot + i) % 16 * a + f) * a + g < 16 * (a * a)
@@ -217,14 +215,14 @@ module _ (a : ℕ) (xs : List ℕ) (T : Table a xs) where
               strict u v e ne h = omega arith
 
   pub stop_at : (slot i x l : ℕ) (ls : slot < 16) (li : i < 16) (P : Clear slot i) (ex : x ≡ root_of xs ((slot + i) % 16)) → (x ≡ 0 → ⊥)
-      → LeafUnder a xs ((slot + i) % 16) x l → FirstLeaf a xs slot l (i + 2)
+      → LeafUnder a xs ((slot + i) % 16) x l → FirstLeaf a xs slot (Some l) (i + 2)
   stop_at slot i x l ls li P ex nz U =
       let K = table_arity T in
       let F : FirstChild a x U.node = first_fits (λ _. U.node_is) K (rw ex (T.tree.root_fits ((slot + i) % 16) (omega arith))) in
       let d : (slot + i) % 16 * a + U.node < 16 * a = digits_lt (omega arith) (F.some nz) in
       let G : FirstChild a (node_word a xs ((slot + i) % 16 * a + U.node)) U.leaf =
       first_fits (λ _. U.leaf_is) K (T.tree.node_fits ((slot + i) % 16 * a + U.node) (omega arith)) in
-      subst (λ (m : ℕ). FirstLeaf a xs slot m (i + 2)) (sym U.at) (clear_stop slot i x ls li P ex U.node _ U.leaf nz F refl G)
+      subst (λ (m : ℕ). LeafFound a xs slot m (i + 2)) (sym U.at) (clear_stop slot i x ls li P ex U.node _ U.leaf nz F refl G)
 
 -- ---- the leaf under a root
 

@@ -2,6 +2,7 @@
 use mathlib.Core.Path.{◌≡◌, sym, ap, ◌∙◌, subst}
 use mathlib.Core.Logic.{◌⊎◌, inl, inr}
 use mathlib.Core.List.{List}
+use Rattle.std.specs.Prelude.{Option, Some, None}
 use Prim.Native.Nat.{ℕ, ◌+◌, ◌*◌, ◌/◌, ◌%◌, ◌≤◌, ◌<◌}
 use native.Mathlib.Nat.{mod-lt, div-add-mod', div-eq_of_lt-le, add-mul, suc-mul, mul_assoc}
 use native.Mathlib.Omega.{arith}
@@ -12,21 +13,24 @@ use Rattle.calendar_shapes.specs.Rule.{arity_in}
 use Rattle.calendar_shapes.proofs.Powers.{row_sizes, row_arity, same_row}
 use Rattle.calendar_cells.specs.Cells.{word_at}
 use Rattle.calendar_cells.specs.Table.{bytes_for, node_word, bucket_head, Table, Waits}
-use Rattle.calendar_search.specs.Promises.{Later}
+use Rattle.calendar_search.specs.Promises.{NoneTo, Later}
 use Rattle.words.proofs.Cases.{lt_or}
 use Rattle.calendar_cells.proofs.TreeLaws.{set_above, some_below}
 use Rattle.calendar_cells.proofs.TableLaws.{table_sizes, by_row}
 use Rattle.calendar_cells.proofs.Heads.{waits_head, head_waits}
 
--- no station from `from` on waits below s
-abbrev pub NoneTo : ℕ → List ℕ → ℕ → ℕ → Type 0
-NoneTo a xs from s = (x : ℕ) → from ≤ x → x < 256 → x < s → Waits a xs x → ⊥
-
 pub none_start : (a : ℕ) (xs : List ℕ) (from : ℕ) → NoneTo a xs from from
 none_start a xs from x l h c w = omega arith
 
-pub none_end : (a : ℕ) (xs : List ℕ) (from s : ℕ) → 256 ≤ s → NoneTo a xs from s → Later a xs from 256
-none_end a xs from s h N = record { waits = λ l. absurd (omega arith); before = λ x l b c w. N x l b (omega arith) w }
+pub none_end : (a : ℕ) (xs : List ℕ) (from s : ℕ) → 256 ≤ s → NoneTo a xs from s → Later a xs from None
+none_end a xs from s h N x l b c w = N x l b (omega arith) w
+
+-- a node's children end at 256
+pub child_within : (a s c : ℕ) → Arity a → s < 256 → c < a → s / a * a + c < 256
+child_within a s c (inl e) l = subst (λ (m : ℕ). c < m → s / m * m + c < 256) (sym e) (λ h. omega arith)
+child_within a s c (inr (inl e)) l = subst (λ (m : ℕ). c < m → s / m * m + c < 256) (sym e) (λ h. omega arith)
+child_within a s c (inr (inr (inl e))) l = subst (λ (m : ℕ). c < m → s / m * m + c < 256) (sym e) (λ h. omega arith)
+child_within a s c (inr (inr (inr e))) l = subst (λ (m : ℕ). c < m → s / m * m + c < 256) (sym e) (λ h. omega arith)
 
 module _ (a : ℕ) (xs : List ℕ) (T : Table a xs) where
   pa : 0 < a
@@ -75,16 +79,16 @@ module _ (a : ℕ) (xs : List ℕ) (T : Table a xs) where
         go (inl m) = N x l b m w
         go (inr m) = skipped x m b (node_of x m k) (omega (arith, mod-lt x pa)) w
 
-    pub found : c < a → Later a xs from (s / a * a + c)
-    found h = record {
-      waits = λ l.
-          let d : (s / a * a + c) / a ≡ s / a = digits_div (s / a) h in
-          let m : (s / a * a + c) % a ≡ c = digits_mod (s / a) h in
+    pub found : s / a * a + c < 256 → c < a → Later a xs from (Some (s / a * a + c))
+    found l h =
+        let d : (s / a * a + c) / a ≡ s / a = digits_div (s / a) h in
+        let m : (s / a * a + c) % a ≡ c = digits_mod (s / a) h in (
+          l,
           bit_waits (s / a * a + c) l
-          (ap (λ (u : ℕ). child a (node_word a xs (16 * a + u)) ((s / a * a + c) % a)) d ∙ ap (child a (node_word a xs (16 * a + s / a))) m
-          ∙ ap (λ (u : ℕ). child a u c) (sym ey) ∙ F.set h);
-      before = λ x l b k w. go x l b k w (lt_or x s);
-    }
+              (ap (λ (u : ℕ). child a (node_word a xs (16 * a + u)) ((s / a * a + c) % a)) d ∙ ap (child a (node_word a xs (16 * a + s / a))) m
+              ∙ ap (λ (u : ℕ). child a u c) (sym ey) ∙ F.set h),
+          λ x l b k w. go x l b k w (lt_or x s),
+        )
       where
         go : (x : ℕ) → from ≤ x → x < 256 → x < s / a * a + c → Waits a xs x → (x < s) ⊎ (s ≤ x) → ⊥
         go x l b k w (inl m) = N x l b m w
@@ -104,6 +108,11 @@ module _ (row A s j i c m : ℕ) (eA : A ≡ arity_in row) (ej : j ≡ s / arity
       let K : Arity A = rw eA (row_arity row) in
       let l = (F K).from h in
       omega (arith, at_first, div-add-mod' s (arity_in row))
+
+  pub child_in : s < 256 → c < A → m + c < 256
+  child_in l h =
+      let p : c < arity_in row = omega arith in
+      omega (arith, at_first, child_within (arity_in row) s c (row_arity row) l p)
 
   pub from_next : s < m + A
   from_next =
@@ -126,19 +135,19 @@ module _
     F' : FirstFrom (arity_in row) y (s % arity_in row) c
     F' = subst (λ (u : ℕ). FirstFrom (arity_in row) y u c) ei (subst (λ (u : ℕ). Arity u → FirstFrom u y i c) eA F (row_arity row))
 
-    pub found_at : c < A → Later (arity_in row) xs from (m + c)
-    found_at h = rw em' (found (arity_in row) xs T from s y c N ey' F' (rw eA at h))
+    pub found_at : m + c < 256 → c < A → Later (arity_in row) xs from (Some (m + c))
+    found_at l h = rw em' (found (arity_in row) xs T from s y c N ey' F' (rw em' at l) (rw eA at h))
 
     pub none_at : A ≤ c → NoneTo (arity_in row) xs from (m + A)
     none_at h = rw (em', eA) (none_on (arity_in row) xs T from s y c N ey' F' (rw eA at h))
 
 -- ---- by the row of the bytes
 
-pub later_short : (i : ℕ) {n r : ℕ} → (n < bytes_for (arity_in i) → r ≡ 256) → n < 7656 → r ≡ 256
+pub later_short : (i : ℕ) {n : ℕ} {r : Option ℕ} → (n < bytes_for (arity_in i) → r ≡ None) → n < 7656 → r ≡ None
 later_short i S l = S (omega (arith, (row_sizes i).low, (row_sizes i).square))
 
-pub later_row : (i row : ℕ) (xs : List ℕ) {from r : ℕ} → row ≡ word_at 7 xs → row % 4 ≡ i % 4 → (Table (arity_in i) xs → Later (arity_in i) xs from r)
+pub later_row : (i row : ℕ) (xs : List ℕ) (from : ℕ) (r : Option ℕ) → row ≡ word_at 7 xs → row % 4 ≡ i % 4 → (Table (arity_in i) xs → Later (arity_in i) xs from r)
     → (a : ℕ) → Table a xs → Later a xs from r
-later_row i row xs {from} {r} e q L a T =
+later_row i row xs from r e q L a T =
     let k : a ≡ arity_in i = by_row a row xs e T ∙ sym (same_row i row q) in
     subst (λ (m : ℕ). Later m xs from r) (sym k) (L (subst (λ (m : ℕ). Table m xs) k T))

@@ -1,8 +1,7 @@
 -- The rule of the table of shapes: "arity squared leaves under arity plus one words" (document 02, change 9).
-use Rattle.std.specs.Prelude.{◌≡◌, ℕ, ◌+◌, ◌*◌, ◌%◌, ◌^◌, ◌≤◌, ◌<◌}
+use Rattle.std.specs.Prelude.{◌≡◌, Option, Some, None, ℕ, ◌+◌, ◌*◌, ◌%◌, ◌^◌, ◌≤◌, ◌<◌}
 use Rattle.calendar_shapes.specs.declared.Shape.{Shape}
 use Rattle.calendar_shapes.specs.declared.Entry.{Entry}
-use Rattle.calendar_shapes.specs.declared.Entry.TheVariants.{At, Missing}
 
 -- the arity in a row, whatever number stands for the row
 unfoldable pub arity_in : ℕ → ℕ
@@ -15,9 +14,9 @@ pub record Right (i : ℕ) (q : Shape) : Type 0 where
   pub words_is : q.words ≡ q.arity + 1
 
 -- what looking an arity up gives
-abbrev pub EntryIs : ℕ → Entry → Type 0
-EntryIs a (At i q) = (i < 4) × Right i q × (q.arity ≡ a)
-EntryIs a Missing = (i : ℕ) → i < 4 → a ≡ 2 ^ (3 + i) → ⊥
+abbrev pub EntryIs : ℕ → Option Entry → Type 0
+EntryIs a (Some e) = (e.row < 4) × Right e.row e.shape × (e.shape.arity ≡ a)
+EntryIs a None = (i : ℕ) → i < 4 → a ≡ 2 ^ (3 + i) → ⊥
 
 -- what the sums over an arity need
 pub record Sizes (a : ℕ) : Type 0 where

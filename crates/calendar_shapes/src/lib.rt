@@ -15,9 +15,9 @@ pub struct Shape {
 
 // A shape and its row in the table.
 #[derive(Clone, Copy)]
-pub enum Entry {
-    At { row: u64, shape: Shape },
-    Missing,
+pub struct Entry {
+    pub row: u64,
+    pub shape: Shape,
 }
 
 const SHAPES: [Shape; 4] = [
@@ -51,18 +51,16 @@ pub fn row(i: u64) -> Shape
 }
 
 // The shape of an arity, where the table has it.
-pub fn shape_of(arity: u64) -> Entry
+pub fn shape_of(arity: u64) -> Option<Entry>
     ensures { EntryIs arity result }
 {
-    let mut i: u64 = 0;
-    while i < 4 {
+    for i in 0..4 {
         let q = row(i);
         if q.arity == arity {
-            return Entry::At { row: i, shape: q };
+            return Some(Entry { row: i, shape: q });
         }
-        i += 1;
     }
-    Entry::Missing
+    None
 }
 
 // The exponent of the arity in a row.

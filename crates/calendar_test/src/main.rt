@@ -7,49 +7,24 @@ ghost use Rattle.std.specs.Prelude.{◌≡◌, ◌-◌, ◌≤◌, length, take,
 ghost use Rattle.calendar_header.specs.Rules.{register_checks, registered_at};
 ghost use Rattle.calendar_header.specs.Promises.{Obeys};
 
-use calendar_answers::{Answer, Least};
+use calendar_answers::Least;
 use refusal::Refusal;
 use std::io;
-use std::num::wrapping_add_u64;
 
 // ---- a call and its line
 
-fn word(rt: &impl Print, text: &[u8]) -> io::Result<()> {
-    rt.write_all(text)
-}
-
-fn number(rt: &impl Print, n: u64) -> io::Result<()> {
-    rt.write_all(b" ")?;
-    rt.print(n)
-}
-
-fn no(rt: &impl Print, r: Refusal) -> io::Result<()> {
-    word(rt, b": no")?;
-    number(rt, refusal::number(r))?;
-    word(rt, b"\n")
-}
-
-fn tell(rt: &impl Print, a: Answer) -> io::Result<()> {
-    match a {
-        Answer::Done => word(rt, b": ok\n"),
-        Answer::Refused(r) => no(rt, r),
+// The answer of a call that names no station.
+fn tell(rt: &impl Print, answer: Result<(), Refusal>) -> io::Result<()> {
+    match answer {
+        Ok(_) => println!(rt; ": ok"),
+        Err(e) => println!(rt; ": no {}", refusal::number(e)),
     }
 }
 
-fn tell_least(rt: &impl Print, l: Least) -> io::Result<()> {
-    match l {
-        Least::At {
-            station,
-            time,
-            words,
-        } => {
-            word(rt, b":")?;
-            number(rt, station)?;
-            number(rt, time)?;
-            number(rt, words)?;
-            word(rt, b"\n")
-        }
-        Least::Refused(r) => no(rt, r),
+fn tell_least(rt: &impl Print, answer: Result<Least, Refusal>) -> io::Result<()> {
+    match answer {
+        Ok(at) => println!(rt; ": {} {} {}", at.station, at.time, at.words),
+        Err(e) => println!(rt; ": no {}", refusal::number(e)),
     }
 }
 
@@ -59,41 +34,36 @@ fn filled<const N: usize>() -> [u8; N] {
 }
 
 fn open(rt: &impl Print, n: u64, arity: u64, width: u64, b: &mut [u8]) -> io::Result<()> {
-    word(rt, b"open")?;
-    number(rt, n)?;
-    number(rt, arity)?;
-    number(rt, width)?;
-    number(rt, b.len() as u64)?;
+    print!(rt; "open {n} {arity} {width} {}", b.len())?;
     tell(rt, calendar::open(n, arity, width, b))
 }
 
 fn register(rt: &impl Print, b: &mut [u8], station: u64, time: u64) -> io::Result<()> {
-    word(rt, b"register")?;
-    number(rt, station)?;
-    number(rt, time)?;
+    print!(rt; "register {station} {time}")?;
     tell(rt, calendar::register(b, station, time))
 }
 
 fn unregister(rt: &impl Print, b: &mut [u8], station: u64) -> io::Result<()> {
-    word(rt, b"unregister")?;
-    number(rt, station)?;
+    print!(rt; "unregister {station}")?;
     tell(rt, calendar::unregister(b, station))
 }
 
 fn lowest(rt: &impl Print, b: &[u8]) -> io::Result<()> {
-    word(rt, b"lowest")?;
+    print!(rt; "lowest")?;
     tell_least(rt, calendar::lowest(b))
 }
 
 fn extract(rt: &impl Print, b: &mut [u8]) -> io::Result<()> {
-    word(rt, b"extract")?;
+    print!(rt; "extract")?;
     tell_least(rt, calendar::extract(b))
 }
 
-fn advance(rt: &impl Print, b: &mut [u8], floor: u64) -> io::Result<()> {
-    word(rt, b"advance")?;
-    number(rt, floor)?;
-    tell(rt, calendar::advance(b, floor))
+// Whether the floor was advanced.
+fn advance(rt: &impl Print, b: &mut [u8], floor: u64) -> io::Result<bool> {
+    print!(rt; "advance {floor}")?;
+    let answer = calendar::advance(b, floor);
+    tell(rt, answer)?;
+    Ok(answer.is_ok())
 }
 
 // ---- openings
@@ -134,20 +104,16 @@ fn open_first(rt: &impl Print, arity: u64, b: &mut [u8], bytes: usize) -> io::Re
 }
 
 // For one station, the longest buffer that is too short, and the shortest that is not.
-fn bounds_on(rt: &impl Print, b: &mut [u8]) -> io::Result<()> {
-    open_first(rt, 8, b, 8255)?;
-    open_first(rt, 8, b, 8256)?;
-    open_first(rt, 16, b, 32831)?;
-    open_first(rt, 16, b, 32832)?;
-    open_first(rt, 32, b, 131135)?;
-    open_first(rt, 32, b, 131136)?;
-    open_first(rt, 64, b, 524351)?;
-    open_first(rt, 64, b, 524352)
-}
-
 fn bounds(rt: &impl Print) -> io::Result<()> {
     let mut b = filled::<524352>();
-    bounds_on(rt, &mut b)
+    open_first(rt, 8, &mut b, 8255)?;
+    open_first(rt, 8, &mut b, 8256)?;
+    open_first(rt, 16, &mut b, 32831)?;
+    open_first(rt, 16, &mut b, 32832)?;
+    open_first(rt, 32, &mut b, 131135)?;
+    open_first(rt, 32, &mut b, 131136)?;
+    open_first(rt, 64, &mut b, 524351)?;
+    open_first(rt, 64, &mut b, 524352)
 }
 
 // ---- each refusal, and the edges of the floor
@@ -205,10 +171,10 @@ fn places(rt: &impl Print) -> io::Result<()> {
     register(rt, &mut b, 1, 768)?;
     register(rt, &mut b, 2, 3072)?;
     register(rt, &mut b, 3, 12288)?;
-    extract(rt, &mut b)?;
-    extract(rt, &mut b)?;
-    extract(rt, &mut b)?;
-    extract(rt, &mut b)
+    for _ in 0..4 {
+        extract(rt, &mut b)?;
+    }
+    Ok(())
 }
 
 // Only the ring's last block has a time, and then no block.
@@ -243,10 +209,10 @@ fn overflow(rt: &impl Print) -> io::Result<()> {
     advance(rt, &mut b, 400000)?;
     register(rt, &mut b, 1, 599999)?;
     extract(rt, &mut b)?;
-    extract(rt, &mut b)?;
-    extract(rt, &mut b)?;
-    extract(rt, &mut b)?;
-    extract(rt, &mut b)
+    for _ in 0..4 {
+        extract(rt, &mut b)?;
+    }
+    Ok(())
 }
 
 // ---- ties: of the stations of the least time the lowest-numbered is named
@@ -305,96 +271,46 @@ fn lowest_at(rt: &impl Print, b: &mut [u8], time: u64) -> io::Result<()> {
     lowest(rt, b)
 }
 
-fn lowest_from(rt: &impl Print, b: &mut [u8], floor: u64) -> io::Result<()> {
-    advance(rt, b, floor)?;
-    lowest(rt, b)
-}
-
-// One time: the last of the ring's first block and the one after it, the same of the block before the last, and of the last, after which it waits in the
-// overflow table.
-fn lowest_at_edges(
-    rt: &impl Print,
-    b: &mut [u8],
-    first: u64,
-    second: u64,
-    before: u64,
-    last: u64,
-    end: u64,
-    over: u64,
-) -> io::Result<()> {
-    lowest_at(rt, b, first)?;
-    lowest_at(rt, b, second)?;
-    lowest_at(rt, b, before)?;
-    lowest_at(rt, b, last)?;
-    lowest_at(rt, b, end)?;
-    lowest_at(rt, b, over)
-}
-
-// An advanced ring comes to cover it, in slot 0.
-fn lowest_from_edges(
-    rt: &impl Print,
-    b: &mut [u8],
-    first: u64,
-    second: u64,
-    last: u64,
-    over: u64,
-) -> io::Result<()> {
-    lowest_from(rt, b, first)?;
-    lowest_from(rt, b, second)?;
-    lowest_from(rt, b, last)?;
-    lowest_from(rt, b, over)?;
-    extract(rt, b)?;
-    extract(rt, b)
-}
-
-fn words_read(
-    rt: &impl Print,
-    arity: u64,
-    first: u64,
-    second: u64,
-    before: u64,
-    last: u64,
-    end: u64,
-    over: u64,
-) -> io::Result<()> {
+// One time: 0, the last of the ring's first block and the one after it, the same of the block before the last, and of the last, after which it waits in the
+// overflow table. Then an advanced ring comes to cover it, in slot 0.
+fn words_read(rt: &impl Print, arity: u64, edges: [u64; 6]) -> io::Result<()> {
     let mut b = filled::<524544>();
     open(rt, 4, arity, 64, &mut b)?;
     lowest(rt, &b)?;
     lowest_at(rt, &mut b, 0)?;
-    lowest_at_edges(rt, &mut b, first, second, before, last, end, over)?;
-    lowest_from_edges(rt, &mut b, first, second, last, over)
+    for time in edges.iter() {
+        lowest_at(rt, &mut b, *time)?;
+    }
+    for floor in [edges[0], edges[1], edges[3], edges[5]].iter() {
+        advance(rt, &mut b, *floor)?;
+        lowest(rt, &b)?;
+    }
+    extract(rt, &mut b)?;
+    extract(rt, &mut b)
 }
 
 // Times that are 32 bits and more after the start of the ring.
-fn far_in_the_ring_on(rt: &impl Print, b: &mut [u8]) -> io::Result<()> {
-    open(rt, 4, 64, 1048576, b)?;
-    lowest_at(rt, b, 4294967295)?;
-    lowest_at(rt, b, 4294967296)?;
-    lowest_at(rt, b, 68719476735)?;
-    lowest_at(rt, b, 68719476736)
-}
-
 fn far_in_the_ring(rt: &impl Print) -> io::Result<()> {
     let mut b = filled::<524544>();
-    far_in_the_ring_on(rt, &mut b)
+    open(rt, 4, 64, 1048576, &mut b)?;
+    lowest_at(rt, &mut b, 4294967295)?;
+    lowest_at(rt, &mut b, 4294967296)?;
+    lowest_at(rt, &mut b, 68719476735)?;
+    lowest_at(rt, &mut b, 68719476736)
 }
 
 // Two stations in the last of 65536 leaves.
-fn last_leaf_on(rt: &impl Print, b: &mut [u8]) -> io::Result<()> {
-    open(rt, 7, 64, 64, b)?;
-    register(rt, b, 5, 4194303)?;
-    register(rt, b, 6, 4194302)?;
-    unregister(rt, b, 5)?;
-    lowest(rt, b)?;
-    register(rt, b, 5, 4194303)?;
-    extract(rt, b)?;
-    extract(rt, b)?;
-    lowest(rt, b)
-}
-
 fn last_leaf(rt: &impl Print) -> io::Result<()> {
     let mut b = filled::<524736>();
-    last_leaf_on(rt, &mut b)
+    open(rt, 7, 64, 64, &mut b)?;
+    register(rt, &mut b, 5, 4194303)?;
+    register(rt, &mut b, 6, 4194302)?;
+    unregister(rt, &mut b, 5)?;
+    lowest(rt, &b)?;
+    register(rt, &mut b, 5, 4194303)?;
+    extract(rt, &mut b)?;
+    extract(rt, &mut b)?;
+    lowest(rt, &b)
 }
 
 // A time of the ring's last block, one after the ring, and one of the floor's block.
@@ -406,15 +322,15 @@ fn words_read_of_three(rt: &impl Print) -> io::Result<()> {
     register(rt, &mut b, 2, 278527)?;
     lowest(rt, &b)?;
     register(rt, &mut b, 3, 16384)?;
-    extract(rt, &mut b)?;
-    extract(rt, &mut b)?;
-    extract(rt, &mut b)?;
-    extract(rt, &mut b)
+    for _ in 0..4 {
+        extract(rt, &mut b)?;
+    }
+    Ok(())
 }
 
 // ---- a calendar in a part of a larger buffer
 
-fn register_in(b: &mut [u8], from: usize, to: usize, station: u64, time: u64) -> Answer
+fn register_in(b: &mut [u8], from: usize, to: usize, station: u64, time: u64) -> Result<(), Refusal>
     requires { (from ≤ to) × (to ≤ length b.old) }
     ensures obeys { Obeys (λ q. register_checks q station time) (λ q. registered_at q station time)
         (take (to - from) (drop from b.old)) result (take (to - from) (drop from b.new)) }
@@ -422,10 +338,6 @@ fn register_in(b: &mut [u8], from: usize, to: usize, station: u64, time: u64) ->
     ensures beyond { drop to b.new ≡ drop to b.old }
 {
     calendar::register(&mut b[from..to], station, time)
-}
-
-fn wide(x: u8) -> u64 {
-    x as u64
 }
 
 fn open_in(rt: &impl Print, b: &mut [u8]) -> io::Result<()> {
@@ -439,7 +351,7 @@ fn tell_register_in(rt: &impl Print, b: &mut [u8]) -> io::Result<()> {
     if b.len() < 34100 {
         return Ok(());
     }
-    word(rt, b"register 2 77")?;
+    print!(rt; "register 2 77")?;
     tell(rt, register_in(b, 1000, 34100, 2, 77))
 }
 
@@ -449,9 +361,7 @@ fn lowest_in(rt: &impl Print, b: &[u8]) -> io::Result<()> {
         return Ok(());
     }
     lowest(rt, &b[1000..34100])?;
-    number(rt, wide(b[999]))?;
-    number(rt, wide(b[34100]))?;
-    word(rt, b"\n")
+    println!(rt; " {} {}", b[999], b[34100])
 }
 
 fn part(rt: &impl Print) -> io::Result<()> {
@@ -464,10 +374,7 @@ fn part(rt: &impl Print) -> io::Result<()> {
 // ---- drawn calls
 
 fn below(x: u32, n: u32) -> u32 {
-    if n == 0 {
-        return 0;
-    }
-    x % n
+    if n == 0 { 0 } else { x % n }
 }
 
 fn thrice(d: u32) -> u32 {
@@ -476,10 +383,8 @@ fn thrice(d: u32) -> u32 {
 
 // A time up to t after the floor; of sixteen one is after half the floor.
 fn time_after(floor: u64, t: u32) -> u64 {
-    if t % 16 == 0 {
-        return wrapping_add_u64(floor / 2, t as u64);
-    }
-    wrapping_add_u64(floor, t as u64)
+    let from = if t % 16 == 0 { floor / 2 } else { floor };
+    from.wrapping_add(t as u64)
 }
 
 // One call of a kind by the draw d, with a station up to n.
@@ -487,23 +392,11 @@ fn call(rt: &impl Print, b: &mut [u8], n: u16, span: u32, floor: u64, d: u32) ->
     let e = generator::drawn(d);
     let station = below(e, n as u32 + 1) as u64;
     let time = time_after(floor, below(generator::drawn(e), span));
-    let kind = d / 4096 % 8;
-    if kind < 4 {
-        return register(rt, b, station, time);
-    }
-    if kind < 5 {
-        return unregister(rt, b, station);
-    }
-    if kind < 6 {
-        return lowest(rt, b);
-    }
-    extract(rt, b)
-}
-
-fn floor_after(a: Answer, floor: u64, next: u64) -> u64 {
-    match a {
-        Answer::Done => next,
-        Answer::Refused(_) => floor,
+    match d / 4096 % 8 {
+        0..=3 => register(rt, b, station, time),
+        4 => unregister(rt, b, station),
+        5 => lowest(rt, b),
+        _ => extract(rt, b),
     }
 }
 
@@ -512,12 +405,12 @@ fn raised(rt: &impl Print, b: &mut [u8], span: u32, floor: u64, d: u32, i: u32) 
     if i % 8 != 7 {
         return Ok(floor);
     }
-    let next = wrapping_add_u64(floor, below(d, span / 8 + 1) as u64);
-    word(rt, b"advance")?;
-    number(rt, next)?;
-    let a = calendar::advance(b, next);
-    tell(rt, a)?;
-    Ok(floor_after(a, floor, next))
+    let next = floor.wrapping_add(below(d, span / 8 + 1) as u64);
+    if advance(rt, b, next)? {
+        Ok(next)
+    } else {
+        Ok(floor)
+    }
 }
 
 // So many calls from a seed.
@@ -531,28 +424,12 @@ fn calls(
 ) -> io::Result<()> {
     let mut d = seed;
     let mut floor: u64 = 0;
-    let mut i: u32 = 0;
-    while i < count {
+    for i in 0..count {
         call(rt, &mut *b, n, span, floor, d)?;
         d = thrice(d);
         floor = raised(rt, &mut *b, span, floor, d, i)?;
-        i += 1;
     }
     Ok(())
-}
-
-fn drawn_on(
-    rt: &impl Print,
-    b: &mut [u8],
-    n: u16,
-    arity: u64,
-    width: u64,
-    span: u32,
-    seed: u32,
-    count: u32,
-) -> io::Result<()> {
-    open(rt, n as u64, arity, width, b)?;
-    calls(rt, b, n, span, seed, count)
 }
 
 fn drawn(
@@ -565,7 +442,8 @@ fn drawn(
     count: u32,
 ) -> io::Result<()> {
     let mut b = filled::<540672>();
-    drawn_on(rt, &mut b, n, arity, width, span, seed, count)
+    open(rt, n as u64, arity, width, &mut b)?;
+    calls(rt, &mut b, n, span, seed, count)
 }
 
 fn main(rt: HostRuntime) -> io::Result<()> {
@@ -578,10 +456,14 @@ fn main(rt: HostRuntime) -> io::Result<()> {
     last_block(&rt)?;
     overflow(&rt)?;
     ties(&rt)?;
-    words_read(&rt, 8, 4095, 4096, 61439, 61440, 65535, 65536)?;
-    words_read(&rt, 16, 16383, 16384, 245759, 245760, 262143, 262144)?;
-    words_read(&rt, 32, 65535, 65536, 983039, 983040, 1048575, 1048576)?;
-    words_read(&rt, 64, 262143, 262144, 3932159, 3932160, 4194303, 4194304)?;
+    words_read(&rt, 8, [4095, 4096, 61439, 61440, 65535, 65536])?;
+    words_read(&rt, 16, [16383, 16384, 245759, 245760, 262143, 262144])?;
+    words_read(&rt, 32, [65535, 65536, 983039, 983040, 1048575, 1048576])?;
+    words_read(
+        &rt,
+        64,
+        [262143, 262144, 3932159, 3932160, 4194303, 4194304],
+    )?;
     words_read_of_three(&rt)?;
     far_in_the_ring(&rt)?;
     last_leaf(&rt)?;

@@ -4,4 +4,4 @@ use Rattle.calendar_cells.proofs.back.Goals as goal
 
 pub returns : goal.returns
 unfolding back_at
-returns c = c.load32.ensures
+returns c = c.load.ensures

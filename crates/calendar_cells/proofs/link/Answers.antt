@@ -4,4 +4,4 @@ use Rattle.calendar_cells.proofs.link.Goals as goal
 
 pub returns : goal.returns
 unfolding link_at
-returns c = c.load16.ensures
+returns c = c.load.ensures

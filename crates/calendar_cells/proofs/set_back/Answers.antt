@@ -4,4 +4,4 @@ use Rattle.calendar_cells.proofs.set_back.Goals as goal
 
 pub returns : goal.returns
 unfolding put_back
-returns c = c.store32.ensures
+returns c = c.store.ensures

@@ -4,4 +4,4 @@ use Rattle.calendar_cells.proofs.set_link.Goals as goal
 
 pub returns : goal.returns
 unfolding put_link
-returns c = c.store16.ensures
+returns c = c.store.ensures

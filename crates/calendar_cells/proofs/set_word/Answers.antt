@@ -4,4 +4,4 @@ use Rattle.calendar_cells.proofs.set_word.Goals as goal
 
 pub returns : goal.returns
 unfolding put_word
-returns c = c.store64.ensures
+returns c = c.store.ensures

@@ -4,4 +4,4 @@ use Rattle.calendar_cells.proofs.word.Goals as goal
 
 pub returns : goal.returns
 unfolding word_at
-returns c = c.load64.ensures
+returns c = c.load.ensures

@@ -1,17 +1,16 @@
 -- The least time decides.
-use mathlib.Core.Path.{subst}
-use Rattle.calendar_header.specs.Promises.{Names}
-use Rattle.calendar_floor.proofs.LeastBefore.{early_at, early_none}
+use mathlib.Core.Path.{◌≡◌}
+use mathlib.Core.Bool.{false}
+use borrow.Author.Rules.{rules}
+use lib.Dec.{ltb}
+use Rattle.std.specs.Prelude.{MatchResult}
+use Rattle.std.proofs.lemmas.Result.{MatchResult-weaker}
+use Rattle.calendar_answers.specs.declared.Least.{Least}
+use Rattle.calendar_floor.proofs.LeastBefore.{early}
 use Rattle.calendar_floor.proofs.early.Goals as goal
 
-pub returns-in-At : goal.returns-in-At
-returns-in-At c =
-    let args = c.args in
-    λ S. early_at args.b.now args.floor S c.in-At.station c.in-At.time c.in-At.words
-    (subst (Names args.b.now) c.in-At.is c.lowest-at.ensures)
-
-pub returns-in-Refused : goal.returns-in-Refused
-returns-in-Refused c =
-    let args = c.args in
-    λ S. early_none args.b.now args.floor S c.in-Refused.field-0
-    (subst (Names args.b.now) c.in-Refused.is c.lowest-at.ensures)
+pub returns : goal.returns
+returns c =
+    let h : MatchResult c.lowest.result (λ (a : Least). c.is_ok_and.result ≡ ltb a.time c.args.floor) (λ _. c.is_ok_and.result ≡ false) =
+    search (rules, MatchResult-weaker) in
+    λ S. early c.args.b.now c.args.floor S _ _ c.lowest.ensures h

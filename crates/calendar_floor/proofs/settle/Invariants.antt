@@ -5,8 +5,8 @@ use lib.ListN.{length}
 use Rattle.calendar_floor.proofs.Fetching.{SettledTo}
 use Rattle.calendar_floor.proofs.settle.Given as goal
 
-abbrev pub invariant-loop-from : goal.invariant-loop-from
-invariant-loop-from l = (l.from ≤ 256) × (length l.b ≡ length l.initial.b) × ((a : ℕ) → SettledTo a l.from l.initial.b l.b)
+abbrev pub invariant-loop-s : goal.invariant-loop-s
+invariant-loop-s l = (l.from ≤ 256) × (length l.b ≡ length l.initial.b) × ((a : ℕ) → SettledTo a l.from l.initial.b l.b)
 
-abbrev pub decreases-loop-from : goal.decreases-loop-from
-decreases-loop-from l = 256 - l.from
+abbrev pub decreases-loop-s : goal.decreases-loop-s
+decreases-loop-s l = 256 - l.from

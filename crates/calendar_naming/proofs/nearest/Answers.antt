@@ -1,41 +1,26 @@
 -- Before each turn, best is the nearest of the stations below from that wait. The measure is what is left of the 256 stations.
 use native.Mathlib.Omega.{arith}
-use Rattle.calendar_naming.proofs.Overflow.{nearer_within, nearest_start, nearest_none, nearest_step, nearest_end}
+use Rattle.calendar_naming.proofs.Overflow.{nearer_within, nearest_none, nearest_step, best_within}
 use Rattle.calendar_naming.proofs.nearest.Goals as goal
 
-pub loop-from-init : goal.loop-from-init
-loop-from-init c = (omega arith, omega arith, λ S. nearest_start _ c.args.b.now)
-
-pub returns-then-s-ge256 : goal.returns-then-s-ge256
-returns-then-s-ge256 c =
-    let args = c.args in
-    let loop = c.loop-from in record {
-      within = omega arith;
-      nearest = λ S. nearest_none _ args.b.now loop.from loop.best c.later-s.result (loop.invariant.2 S)
-          (c.later-s.ensures.first _ S.table) c.if-s-ge256.true;
-    }
-
-pub overflow_add-from : goal.overflow_add-from
-overflow_add-from c = omega arith
-
-pub loop-from-smaller : goal.loop-from-smaller
-loop-from-smaller c = omega (arith, c.later-s.ensures.from c.if-s-ge256.false)
-
-pub loop-from-preserved : goal.loop-from-preserved
-loop-from-preserved c =
-    let args = c.args in
-    let loop = c.loop-from in
-    let later = c.later-s in
-    let up = later.ensures.from c.if-s-ge256.false in (
-      nearer_within args.b.now loop.from loop.best later.result c.nearer-best.result c.nearer-best.ensures.nearer loop.invariant.0 up,
-      omega arith,
-      λ S. nearest_step _ args.b.now loop.from loop.best later.result (loop.invariant.2 S) (later.ensures.first _ S.table)
-          c.if-s-ge256.false up loop.invariant.0 c.nearer-best.result c.nearer-best.ensures.nearer,
+pub loop-s-preserved : goal.loop-s-preserved
+loop-s-preserved c =
+    let b = c.args.b.now in
+    let loop = c.loop-s in
+    let s = c.in-Some.s in
+    let from = c.in-Some.ensures.from in
+    let within = nearer_within b loop.from loop.best s c.nearer.result loop.invariant.0 from.0 c.nearer.ensures in (
+      omega (arith, within),
+      omega (arith, from.1),
+      λ S.
+          let L = c.in-Some.ensures.first _ S.table in
+          nearest_step _ b loop.from s L.0 L.1 L.2 loop.best c.nearer.result loop.invariant.0 from.0 (loop.invariant.2 S) c.nearer.ensures,
     )
 
 pub returns : goal.returns
-returns c = record {
-  within = omega arith;
-  nearest = λ S. nearest_end _ c.args.b.now c.loop-from.from c.loop-from.best
-      c.loop-from-test.false (c.loop-from.invariant.2 S);
-}
+returns c =
+    let loop = c.loop-s in
+    record {
+      within = best_within loop.best loop.from loop.invariant.0 loop.invariant.1;
+      nearest = λ S. nearest_none _ c.args.b.now loop.from loop.best (loop.invariant.2 S) (c.in_default.ensures.first _ S.table);
+    }

@@ -1,27 +1,12 @@
 -- The least station is taken.
-use mathlib.Core.Path.{subst}
-use native.Mathlib.Omega.{arith}
-use Rattle.calendar_header.specs.Promises.{Names}
+use Rattle.std.proofs.lemmas.Result.{err_from_is_err_and}
 use Rattle.calendar_registering.proofs.Extracting.{extract_at, extract_none}
 use Rattle.calendar_registering.proofs.extract.Goals as goal
 
-pub overflow_cast-station : goal.overflow_cast-station
-overflow_cast-station c =
-    let lowest = c.lowest-at in
-    let at = c.in-At in
-    omega (arith, lowest.ensures.station at.station at.time at.words at.is)
+pub returns : goal.returns
+returns c = extract_at c.args.b.now c.take.new.b c.in_ok-at.at c.in_ok-at.ensures c.take.ensures.kept c.take.ensures.gone
 
-pub returns-in-At : goal.returns-in-At
-returns-in-At c =
-    let args = c.args in
-    let lowest = c.lowest-at in
-    let at = c.in-At in
-    let take = c.take in
-    extract_at args.b.now take.new.b at.station at.time at.words
-    (subst (Names args.b.now) at.is lowest.ensures) take.ensures.kept take.ensures.gone
-
-pub returns-in-Refused : goal.returns-in-Refused
-returns-in-Refused c =
-    let args = c.args in
-    let lowest = c.lowest-at in
-    extract_none args.b.now c.in-Refused.e (subst (Names args.b.now) c.in-Refused.is lowest.ensures)
+pub returns-in_err-at : goal.returns-in_err-at
+returns-in_err-at c =
+    let p = err_from_is_err_and c.from_residual.result c.from_residual.ensures.1 in
+    rw (p.1, p.2) (extract_none c.args.b.now c.in_err-at.field-0.0 c.in_err-at.ensures)

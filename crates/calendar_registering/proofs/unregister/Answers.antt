@@ -1,20 +1,15 @@
 -- A station beyond the calendar's is refused, any other is taken.
-use native.Mathlib.Omega.{arith}
-use Rattle.calendar_header.proofs.Obeying.{out_of, one_of}
+use Rattle.std.proofs.lemmas.Result.{err_from_is_err_and}
 use Rattle.calendar_registering.proofs.Registering.{unregister_9, unregister_done}
 use Rattle.calendar_registering.proofs.unregister.Goals as goal
 
-pub returns-then-stations-station : goal.returns-then-stations-station
-returns-then-stations-station c =
-    let args = c.args in
-    unregister_9 args.b.now args.station (out_of args.b.now c.stations.result args.station
-    c.stations.ensures.0 c.if-stations-station.true)
+pub returns-in_err-s : goal.returns-in_err-s
+returns-in_err-s c =
+    let p = err_from_is_err_and c.from_residual.result c.from_residual.ensures.1 in
+    let e = c.in_err-s.ensures in
+    rw (p.1, p.2, e.0) (unregister_9 c.args.b.now c.args.station e.1)
 
 pub returns : goal.returns
 returns c =
-    let args = c.args in
-    let stations = c.stations in
-    let take = c.take in
-    unregister_done args.b.now args.station take.new.b (one_of args.b.now stations.result args.station stations.ensures.0
-    c.if-stations-station.false)
-    (omega arith) take.ensures.kept take.ensures.gone
+    let s = c.in_ok-s.ensures in
+    rw (← s.0) (unregister_done c.args.b.now c.in_ok-s.s c.take.new.b s.2 s.1 c.take.ensures.kept c.take.ensures.gone)

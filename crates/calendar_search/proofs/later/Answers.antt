@@ -9,7 +9,7 @@ returns-in-0 c =
     record {
       from = later.ensures.from;
       short = later_short 0 later.ensures.short;
-      first = later_row 0 _ _ c.word.ensures (omega arith) later.ensures.first;
+      first = later_row 0 _ _ _ _ c.word.ensures (omega arith) later.ensures.first;
     }
 
 pub returns-in-1 : goal.returns-in-1
@@ -18,7 +18,7 @@ returns-in-1 c =
     record {
       from = later.ensures.from;
       short = later_short 1 later.ensures.short;
-      first = later_row 1 _ _ c.word.ensures (omega arith) later.ensures.first;
+      first = later_row 1 _ _ _ _ c.word.ensures (omega arith) later.ensures.first;
     }
 
 pub returns-in-2 : goal.returns-in-2
@@ -27,7 +27,7 @@ returns-in-2 c =
     record {
       from = later.ensures.from;
       short = later_short 2 later.ensures.short;
-      first = later_row 2 _ _ c.word.ensures (omega arith) later.ensures.first;
+      first = later_row 2 _ _ _ _ c.word.ensures (omega arith) later.ensures.first;
     }
 
 pub returns-in_default : goal.returns-in_default
@@ -36,5 +36,5 @@ returns-in_default c =
     record {
       from = later.ensures.from;
       short = later_short 3 later.ensures.short;
-      first = later_row 3 _ _ c.word.ensures (omega arith) later.ensures.first;
+      first = later_row 3 _ _ _ _ c.word.ensures (omega arith) later.ensures.first;
     }

@@ -1,7 +1,7 @@
 -- Each node without a bit from s on passes its stations by.
 use mathlib.Core.Path.{refl}
 use native.Mathlib.Omega.{arith}
-use Rattle.calendar_search.proofs.Laters.{none_start, none_end, from_least, from_next, found_at, none_at}
+use Rattle.calendar_search.proofs.Laters.{none_start, none_end, child_in, from_least, from_next, found_at, none_at}
 use Rattle.calendar_search.proofs.later_in.Goals as goal
 
 pub returns-then-b-table_bytes : goal.returns-then-b-table_bytes
@@ -9,7 +9,7 @@ returns-then-b-table_bytes c =
     let bytes = c.table_bytes in
     let short = c.if-b-table_bytes in
     record {
-      from = λ l. absurd (omega arith);
+      from = tt;
       short = λ h. refl;
       first = λ T. absurd (omega (arith, T.long, short.true, bytes.ensures.0));
     }
@@ -46,12 +46,13 @@ returns-then-c-a c =
     let if2 = c.if-c-a in
     let bytes = c.table_bytes in
     let first = c.below.ensures.fits (omega (arith, above.ensures.1)) in
-    let least = from_least _ _ _ _ _ _ _ arity.ensures.0 above.ensures.0 child-of.ensures.0 first.0 first-from.ensures.first if2.true in record {
-      from = λ l. omega (arith, loop.invariant.0, least);
+    let least = from_least _ _ _ _ _ _ _ arity.ensures.0 above.ensures.0 child-of.ensures.0 first.0 first-from.ensures.first if2.true in
+    let in_node = child_in _ _ _ _ _ _ _ arity.ensures.0 above.ensures.0 child-of.ensures.0 first.0 c.loop-s-test.true if2.true in record {
+      from = (omega (arith, loop.invariant.0, least), in_node);
       short = λ h. absurd (omega (arith, if1.false, bytes.ensures.0));
       first = λ T.
           found_at _ _ T _ _ _ _ _ _ _ _ _ arity.ensures.0 above.ensures.0 child-of.ensures.0 first.0
-          nodes-at.ensures.0 word.ensures (loop.invariant.1 T) first-from.ensures.first if2.true;
+          nodes-at.ensures.0 word.ensures (loop.invariant.1 T) first-from.ensures.first in_node if2.true;
     }
 
 pub overflow_add-s : goal.overflow_add-s
@@ -92,7 +93,7 @@ returns c =
     let loop = c.loop-s in
     let loop-test = c.loop-s-test in
     record {
-      from = λ l. absurd (omega arith);
+      from = tt;
       short = λ h. refl;
       first = λ T. none_end _ _ _ _ loop-test.false (loop.invariant.1 T);
     }

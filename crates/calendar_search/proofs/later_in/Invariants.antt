@@ -2,7 +2,7 @@
 use Prim.Native.Nat.{◌-◌, ◌≤◌}
 use Rattle.calendar_shapes.specs.Rule.{arity_in}
 use Rattle.calendar_cells.specs.Table.{Table}
-use Rattle.calendar_search.proofs.Laters.{NoneTo}
+use Rattle.calendar_search.specs.Promises.{NoneTo}
 use Rattle.calendar_search.proofs.later_in.Given as goal
 
 abbrev pub invariant-loop-s : goal.invariant-loop-s
