@@ -2,11 +2,11 @@
 use mathlib.Core.Path.{refl}
 use mathlib.Core.List.{List}
 use Prim.Native.Nat.{ℕ}
+use Rattle.std.specs.Prelude.{Ok}
 use Rattle.rules.specs.Engine.{Setting}
 use Rattle.rules.specs.Demand.{Made}
 use Rattle.rules.proofs.Calls.Alike.{alike}
 use Rattle.rules.proofs.Calls.ButCounts.{alike_but_counts}
-use Rattle.engine_answers.specs.declared.OpenAnswer.TheVariants.{Done}
 use Rattle.plan_format.specs.Line.{line_of}
 use Rattle.engine.specs.Session.{Whole}
 use Rattle.engine.specs.Printouts.{Printout, Printouts}
@@ -14,7 +14,7 @@ use Rattle.engine.proofs.Session.{whole}
 
 pub listed : {plan : List ℕ} {setting : Setting} {ms : List Made} (o : Printout plan setting ms) → Whole plan setting ms o.left
 listed {plan} {setting} {ms} o =
-    (whole plan setting.arity setting.width setting.capacity o.before Done o.opened o.opening).whole refl o.left ms o.calls
+    (whole plan setting.arity setting.width setting.capacity o.before (Ok tt) o.opened o.opening).whole refl o.left ms o.calls
 
 pub same_printouts : Printouts
 same_printouts = record {

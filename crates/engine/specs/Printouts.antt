@@ -1,10 +1,9 @@
 -- Two printouts of one plan are the same, whatever the two buffers held before (document 02, change 3); where the arities or the leaf widths differ, all but
 -- the counts of bitmap words read (changes 5 and 9).
-use Rattle.std.specs.Prelude.{List, ℕ}
+use Rattle.std.specs.Prelude.{List, ℕ, Ok}
 use Rattle.rules.specs.Engine.{Setting, chosen}
 use Rattle.rules.specs.Demand.{Made}
 use Rattle.rules.specs.Alike.{Alike, AlikeButCounts}
-use Rattle.engine_answers.specs.declared.OpenAnswer.TheVariants.{Done}
 use Rattle.engine_promises.specs.Promises.{Opens}
 use Rattle.engine.specs.Session.{Chain}
 
@@ -13,7 +12,7 @@ pub record Printout (plan : List ℕ) (setting : Setting) (ms : List Made) : Typ
   pub before : List ℕ
   pub opened : List ℕ
   pub left : List ℕ
-  pub opening : Opens plan setting.arity setting.width setting.capacity before Done opened
+  pub opening : Opens plan setting.arity setting.width setting.capacity before (Ok tt) opened
   pub calls : Chain opened ms left
 
 pub record Printouts : Type 0 where

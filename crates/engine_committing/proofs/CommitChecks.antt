@@ -6,6 +6,7 @@ use Prim.Native.Nat.{ℕ, ◌+◌, ◌*◌, ◌≤◌, ◌<◌}
 use native.Mathlib.Omega.{arith}
 use borrow.Author.Tests.{lt-ltb, le-ltb}
 use lib.ListN.{length}
+use Rattle.std.specs.Prelude.{Ok, Err}
 use Rattle.refusal.specs.declared.Refusal.{Refusal}
 use Rattle.refusal.specs.declared.Refusal.TheVariants.{Space, Late, Early, Unrun, Output}
 use Rattle.refusal.specs.Numbers.{number_of}
@@ -18,10 +19,11 @@ use Rattle.rules.specs.Checks.{checks}
 use Rattle.engine_events.specs.Represents.{fits_in, Holds}
 use Rattle.engine_promises.specs.Represents.{Represents}
 use Rattle.engine_promises.specs.Steps.{at_most}
-use Rattle.engine_committing.specs.declared.CommitJudged.TheVariants as J
+use Rattle.engine_committing.specs.declared.Front.{Front}
 use Rattle.engine_committing.specs.Steps.{Counts, JudgesCommit}
 use Rattle.engine_committing.specs.Steps.{Early as SaysEarly}
 use Rattle.engine_promises.proofs.Header.{fits_read, unfit}
+use Rattle.engine_promises.proofs.Refused.{judges_refusal}
 
 -- ---- the numbers
 
@@ -53,14 +55,11 @@ module _ (p : Plan) (e : Engine) (time : ℕ) (output : List ℕ) where
 
 module _ (time room : ℕ) (xs : List ℕ) where
   abbrev Says : Refusal → Type 0
-  Says r = JudgesCommit time room xs (J.Refused r)
+  Says r = JudgesCommit time room xs (Err r)
 
   refuses : (r : Refusal) → ((output : List ℕ) → length output ≡ room → (p : Plan) (e : Engine) → Represents p e xs → judged (checks p e (Commit time output)) ≡ refused (number_of r))
       → Says r
-  refuses r j = record {
-    number = λ output l. record { says = j output l };
-    passes = λ n c count q. let z : ◌≡◌ {A = ℕ} 0 1 = cc in absurd (omega arith);
-  }
+  refuses r j output l = judges_refusal (Commit time output) r (record { says = j output l })
 
   pub says_late : horizon + 1 < time → Says Late
   says_late h = refuses Late (λ output l p e R. judged_late p e time output h)
@@ -95,18 +94,15 @@ module _ (time room : ℕ) (xs : List ℕ) where
             let z = C p e.setting e.now e.queue R.cells (holds_read p e R) d in
             judged_short p e time output a (rw R.now at b) d (omega (arith, l, h, z)))
 
-        pub says_accepted : 24 * count ≤ room → JudgesCommit time room xs (J.Accepts n c count)
-        says_accepted h = record {
-          number = λ output l.
-              record {
-                says = λ p e R.
-                    let d = unrun_is E p e R in
-                    let z = C p e.setting e.now e.queue R.cells (holds_read p e R) d in
-                    judged_passed p e time output a (rw R.now at b) d (omega (arith, l, h, z));
-              };
-          passes = λ n' c' count' q.
-              let z₁ : n ≡ n' = cc in
-              let z₂ : c ≡ c' = cc in
-              let z₃ : count ≡ count' = cc in
-              rw (← z₁, ← z₂, ← z₃) (record { stations = s; capacity = k; in_time = a; due = b; none_is_unrun = E; counts = C; room_is = h });
+        pub says_accepted : 24 * count ≤ room → JudgesCommit time room xs (Ok (record { n = n; c = c; count = count }))
+        says_accepted h output l = record {
+          number = record {
+            says = λ p e R.
+                let d = unrun_is E p e R in
+                let z = C p e.setting e.now e.queue R.cells (holds_read p e R) d in
+                judged_passed p e time output a (rw R.now at b) d (omega (arith, l, h, z));
+          };
+          found = λ f q.
+              let z : ◌≡◌ {A = Front} (record { n = n; c = c; count = count }) f = cc in
+              rw (← z) (record { stations = s; capacity = k; in_time = a; due = b; none_is_unrun = E; counts = C; room_is = h });
         }

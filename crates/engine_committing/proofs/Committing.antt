@@ -7,8 +7,8 @@ use mathlib.Core.List.{List, [], ◌∷◌, ◌++◌}
 use Prim.Native.Nat.{ℕ, ◌+◌, ◌*◌, ◌≤◌, ◌<◌}
 use native.Mathlib.Omega.{arith}
 use lib.ListN.{length, drop}
+use Rattle.std.specs.Prelude.{Ok, Err}
 use Rattle.refusal.specs.declared.Refusal.{Refusal}
-use Rattle.refusal.specs.Numbers.{number_of}
 use Rattle.refusal.specs.Tests.{horizon}
 use Rattle.words.specs.Le.{load_at, store_at}
 use Rattle.line.specs.Station.{Plan}
@@ -20,16 +20,14 @@ use Rattle.engine_index.specs.Represents.{Cell}
 use Rattle.engine_events.specs.Represents.{held_of, Holds}
 use Rattle.engine_events.specs.Promises.{AfterHeader}
 use Rattle.engine_moves.specs.Promises.{Raises}
-use Rattle.engine_answers.specs.declared.CommitAnswer.TheVariants.{Done, Refused as NotDone}
 use Rattle.engine_promises.specs.Represents.{Represents}
 use Rattle.engine_promises.specs.Answers.{commit_said}
 use Rattle.engine_promises.specs.Promises.{Commits}
 use Rattle.engine_promises.specs.Steps.{at_most}
-use Rattle.engine_committing.specs.declared.CommitJudged.{CommitJudged}
-use Rattle.engine_committing.specs.declared.CommitJudged.TheVariants as J
-use Rattle.engine_committing.specs.Steps.{Early, Counts, events_of, Writes, commit_verdict, JudgesCommit}
+use Rattle.engine_committing.specs.declared.Front.{Front}
+use Rattle.engine_committing.specs.Steps.{Early, Counts, events_of, Writes, JudgesCommit}
 use Rattle.engine_promises.proofs.Invariant.{reached_next}
-use Rattle.engine_promises.proofs.Refused.{judged_refused}
+use Rattle.engine_promises.proofs.Refused.{refused_call}
 use Rattle.engine_promises.proofs.Header.{header_frame, header_word, header_other, header_kept, header_holds, fits_read}
 use Rattle.engine_committing.proofs.LogFront.{AllLate, Parted, parted, logged_front, kept_back, length_events}
 use Rattle.engine_committing.proofs.CommitChecks.{judged_passed, holds_read}
@@ -122,7 +120,7 @@ module _ (time : ℕ) (xs output : List ℕ) {n c : ℕ} (s : n ≡ at_most 256 
           holds = rw rest B;
         }
 
-  commit_done : Commits (Commit time) (commit_said (Done count)) xs ws output left
+  commit_done : Commits (Commit time) (commit_said (Ok count)) xs ws output left
   commit_done = record {
     answered = record {
       refusal = λ i z. absurd (other z);
@@ -136,12 +134,13 @@ module _ (time : ℕ) (xs output : List ℕ) {n c : ℕ} (s : n ≡ at_most 256 
 
 -- ---- the call
 
-module _ {time : ℕ} {xs output : List ℕ} {j : CommitJudged} (I : JudgesCommit time (length output) xs j) where
-  pub commit_refusal : {r : Refusal} → j ≡ J.Refused r → Commits (Commit time) (commit_said (NotDone r)) xs xs output output
-  commit_refusal {r} q = record { answered = judged_refused (Commit time output) (number_of r) (I.number output refl) (ap commit_verdict q); refusal = λ i z. refl }
+module _ {time : ℕ} {xs output : List ℕ} where
+  pub commit_refusal : {r : Refusal} → JudgesCommit time (length output) xs (Err r) → Commits (Commit time) (commit_said (Err r)) xs xs output output
+  commit_refusal J = record { answered = refused_call (Commit time output) (J output refl); refusal = λ i z. refl }
 
-  pub commit_accepted : {n c count : ℕ} → j ≡ J.Accepts n c count → {ys left zs ws : List ℕ} → AfterHeader xs ys → Writes n c xs count output ys left
-      → zs ≡ store_at 8 16 time ys → AfterHeader zs ws → Raises n c time zs ws → Commits (Commit time) (commit_said (Done count)) xs ws output left
-  commit_accepted {n} {c} {count} q F W P G U =
-      let a = I.passes n c count q in
-      commit_done time xs output a.stations a.capacity count a.in_time a.due a.none_is_unrun a.counts a.room_is F W P G U
+  pub commit_accepted : {f : Front} → JudgesCommit time (length output) xs (Ok f) → {ys left zs ws : List ℕ} → AfterHeader xs ys
+      → Writes f.n f.c xs f.count output ys left → zs ≡ store_at 8 16 time ys → AfterHeader zs ws → Raises f.n f.c time zs ws
+      → Commits (Commit time) (commit_said (Ok f.count)) xs ws output left
+  commit_accepted {f} J F W P G U =
+      let a = (J output refl).found f refl in
+      commit_done time xs output a.stations a.capacity f.count a.in_time a.due a.none_is_unrun a.counts a.room_is F W P G U

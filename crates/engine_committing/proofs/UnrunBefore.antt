@@ -7,7 +7,7 @@ use native.Mathlib.Omega.{arith}
 use lib.Dec.{ltb}
 use Rattle.refusal.specs.declared.Refusal.{Refusal}
 use Rattle.calendar_answers.specs.declared.Least.{Least}
-use Rattle.calendar_answers.specs.declared.Least.TheVariants.{At, Refused as NoLeast}
+use Rattle.std.specs.Prelude.{Ok, Err}
 use Rattle.line.specs.declared.Event.{Event}
 use Rattle.line.specs.Station.{Plan}
 use Rattle.line.proofs.Order.{asym}
@@ -54,13 +54,13 @@ held_sorted {cells = cells} H = subst InOrder H.stores.held (cells_sorted cells 
 
 -- ---- what the calendar says
 
-module _ {n c : ℕ} {xs : List ℕ} {r : Least} (time : ℕ) (F : Finds n c xs r) where
-  pub none_earlier : (e : Refusal) → r ≡ NoLeast e → S.Early n c xs time false
-  none_earlier e k p setting now q cells H = sym (none_before time q.held (F.none p setting now q cells H e k))
+module _ {n c : ℕ} {xs : List ℕ} (time : ℕ) where
+  pub none_earlier : {e : Refusal} → Finds n c xs (Err e) → S.Early n c xs time false
+  none_earlier F p setting now q cells H = sym (none_before time q.held (F.none p setting now q cells H))
 
-  pub some_earlier : (s t w : ℕ) → r ≡ At s t w → S.Early n c xs time (ltb t time)
-  some_earlier s t w k p setting now q cells H =
-      let f = F.some p setting now q cells H s t w k in
+  pub some_earlier : {a : Least} → Finds n c xs (Ok a) → S.Early n c xs time (ltb a.time time)
+  some_earlier {a} F p setting now q cells H =
+      let f = F.some p setting now q cells H in
       let l = f.2 in
-      let e : l.time ≡ t = f.3 in
-      rw e at (lowest_before time q.held s (held_sorted H) l)
+      let e : l.time ≡ a.time = f.3 in
+      rw e at (lowest_before time q.held a.station (held_sorted H) l)

@@ -1,9 +1,9 @@
 -- What the calls' private steps ensure; no promise to a caller cites these.
-use Rattle.std.specs.Prelude.{◌≡◌, Bool, true, false, List, [], ◌∷◌, ◌++◌, ℕ, ◌+◌, ◌*◌, ◌≤◌, length, drop}
+use Rattle.std.specs.Prelude.{◌≡◌, Bool, true, false, List, [], ◌∷◌, ◌++◌, ℕ, ◌+◌, ◌*◌, ◌≤◌, length, drop, Result}
 use Rattle.words.specs.Le.{load_at}
 use Rattle.engine_rows.specs.Layout.{word_place, capacity_word, commit_time_word, stations_word}
-use Rattle.refusal.specs.Numbers.{number_of}
-use Rattle.refusal.specs.Tests.{horizon, Verdict, accepted, refused}
+use Rattle.refusal.specs.declared.Refusal.{Refusal}
+use Rattle.refusal.specs.Tests.{horizon}
 use Rattle.line.specs.declared.Event.{Event}
 use Rattle.line.specs.Station.{Plan, InRange}
 use Rattle.rules.specs.Held.{event, Queue, unrun_before, logged}
@@ -11,9 +11,8 @@ use Rattle.rules.specs.Engine.{Setting, Commit}
 use Rattle.entry.specs.Entry.{entries}
 use Rattle.engine_index.specs.Represents.{Cell, has_run}
 use Rattle.engine_events.specs.Represents.{held_of, Holds}
-use Rattle.engine_promises.specs.Steps.{at_most, JudgesCall}
-use Rattle.engine_committing.specs.declared.CommitJudged.{CommitJudged}
-use Rattle.engine_committing.specs.declared.CommitJudged.TheVariants as J
+use Rattle.engine_promises.specs.Steps.{at_most, Judges}
+use Rattle.engine_committing.specs.declared.Front.{Front}
 
 -- does an unrun event lie before the time?
 abbrev pub Early : ℕ → ℕ → List ℕ → ℕ → Bool → Type 0
@@ -44,11 +43,6 @@ Writes n c xs count output ys left =
 
 -- ---- judging
 
--- the number that it says
-abbrev pub commit_verdict : CommitJudged → Verdict
-commit_verdict (J.Accepts n c count) = accepted
-commit_verdict (J.Refused r) = refused (number_of r)
-
 -- a commit of so many events passes every number, at n stations and c slots
 pub record CommitPasses (n c time count room : ℕ) (xs : List ℕ) : Type 0 where
   pub stations : n ≡ at_most 256 (load_at 8 (word_place stations_word) xs)
@@ -59,6 +53,7 @@ pub record CommitPasses (n c time count room : ℕ) (xs : List ℕ) : Type 0 whe
   pub counts : Counts n c xs time count
   pub room_is : 24 * count ≤ room
 
-pub record JudgesCommit (time room : ℕ) (xs : List ℕ) (r : CommitJudged) : Type 0 where
-  pub number : (output : List ℕ) → length output ≡ room → JudgesCall (Commit time output) (commit_verdict r) xs
-  pub passes : (n c count : ℕ) → r ≡ J.Accepts n c count → CommitPasses n c time count room xs
+-- of each output of so many bytes
+abbrev pub JudgesCommit : ℕ → ℕ → List ℕ → Result Front Refusal → Type 0
+JudgesCommit time room xs r =
+    (output : List ℕ) → length output ≡ room → Judges (Commit time output) xs r (λ f. CommitPasses f.n f.c time f.count room xs)

@@ -8,6 +8,8 @@ use Prim.Native.Nat.{ℕ, ◌-◌, ◌≤◌, ◌<◌}
 use native.Mathlib.Omega.{arith}
 use lib.ListN.{length, take, drop, get_or-eq_default}
 use Rattle.words.proofs.Cases.{lt_or}
+use Rattle.std.specs.Prelude.{Result, Ok, Err}
+use Rattle.refusal.specs.declared.Refusal.{Refusal}
 use Rattle.refusal.specs.declared.Refusal.TheVariants.{Idle}
 use Rattle.refusal.specs.Tests.{accepted, refused, or_next, judged, says}
 use Rattle.refusal.specs.Numbers.{number_of}
@@ -16,7 +18,6 @@ use Rattle.rules.specs.Held.{Held, Queue, registered_from}
 use Rattle.rules.specs.Engine.{Setting}
 use Rattle.calendar_ring.specs.WordsRead.{words_read}
 use Rattle.calendar_answers.specs.declared.Least.{Least}
-use Rattle.calendar_answers.specs.declared.Least.TheVariants.{Refused as NoLeast}
 use Rattle.calendar_header.specs.Rules.{none_registered, LeastAt, words_of, lowest_checks}
 use Rattle.calendar_header.specs.Bytes.{state_of}
 use Rattle.calendar_header.specs.Promises.{Names}
@@ -51,29 +52,32 @@ counted : {setting : Setting} {n c now : ℕ} {xs : List ℕ} {h : List Held} �
     → words_of (state_of (part n c xs)) ≡ words_read setting.arity setting.width now (registered_from h 0 n)
 counted C = rw (C.arity, C.width, C.floor, shows_times C.shows)
 
-pub finds : (n c : ℕ) {start : ℕ} (xs : List ℕ) {r : Least} → start ≡ calendar_at n c → fits_in n c (length xs) ≡ true
+pub finds : (n c : ℕ) {start : ℕ} (xs : List ℕ) {r : Result Least Refusal} → start ≡ calendar_at n c → fits_in n c (length xs) ≡ true
     → Names (take (length xs - start) (drop start xs)) r → Finds n c xs r
-finds n c {start} xs {r} ls fit N =
-    record {
+finds n c {start} xs {r} ls fit N = go r (subst (λ (zs : List ℕ). Names zs r) (part_whole n c xs ls) N)
+  where
+    go : (x : Result Least Refusal) → Names (part n c xs) x → Finds n c xs x
+    go (Ok a) names = record {
       unfit = λ z. absurd (true≢false (sym fit ∙ z));
-      idle = names.idle;
-      none = λ p setting now q cells H e k.
+      idle = tt;
+      none = λ p setting now q cells H. tt;
+      some = λ p setting now q cells H.
           let A = H.calendar.shows in
-          let v : refused (number_of e) ≡ judged (lowest_checks (state_of (part n c xs))) = rw k at (names.answer H.calendar.sound) in
-          sym (none_shows A) ∙ idle (state_of (part n c xs)).times (number_of e) v;
-      some = λ p setting now q cells H s t k e.
-          let A = H.calendar.shows in
-          let L = names.least H.calendar.sound s t k e in (
-            sym (none_shows A) ∙ none_false (state_of (part n c xs)).times s t L.has,
+          let L = names.least H.calendar.sound in (
+            sym (none_shows A) ∙ none_false (state_of (part n c xs)).times a.station a.time L.has,
             inside A L,
             named_lowest A L,
             named_time A L,
-            names.words H.calendar.sound s t k e ∙ counted H.calendar,
+            names.words H.calendar.sound ∙ counted H.calendar,
           );
     }
-  where
-    names : Names (part n c xs) r
-    names = subst (λ (zs : List ℕ). Names zs r) (part_whole n c xs ls) N
+    go (Err e) names = record {
+      unfit = λ z. absurd (true≢false (sym fit ∙ z));
+      idle = names.idle;
+      none = λ p setting now q cells H.
+          sym (none_shows H.calendar.shows) ∙ idle (state_of (part n c xs)).times (number_of e) (names.answer H.calendar.sound);
+      some = λ p setting now q cells H. tt;
+    }
 
 -- ---- nothing is held: the numbers are out of range
 
@@ -83,10 +87,10 @@ Nothing n c xs = (p : Plan) (setting : Setting) (now : ℕ) (q : Queue) (cells :
 pub nothing_fits : (n c : ℕ) (xs : List ℕ) {r : Bool} → r ≡ fits_in n c (length xs) → r ≡ false → Nothing n c xs
 nothing_fits n c xs e z p setting now q cells H = fits_gone e z H.stores
 
-pub finds_none : (n c : ℕ) (xs : List ℕ) → Nothing n c xs → Finds n c xs (NoLeast Idle)
+pub finds_none : (n c : ℕ) (xs : List ℕ) → Nothing n c xs → Finds n c xs (Err Idle)
 finds_none n c xs N = record {
   unfit = λ _. refl;
-  idle = λ e k. let z : Idle ≡ e = cc in sym z;
-  none = λ p setting now q cells H e k. absurd (N p setting now q cells H);
-  some = λ p setting now q cells H s t k e. absurd (N p setting now q cells H);
+  idle = refl;
+  none = λ p setting now q cells H. absurd (N p setting now q cells H);
+  some = λ p setting now q cells H. tt;
 }

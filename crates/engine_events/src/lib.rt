@@ -71,12 +71,12 @@ pub fn calendar_start(n: u16, c: u16) -> u32
 }
 
 // The lowest-numbered station of the least time among the first unrun events, with that time; 14 where there is none.
-pub fn lowest(b: &[u8], n: u16, c: u16) -> Least
+pub fn lowest(b: &[u8], n: u16, c: u16) -> Result<Least, Refusal>
     ensures { Finds n c b.now result }
 {
     if fits(b, n, c) {
         let start = calendar_start(n, c) as usize;
         return calendar::lowest(&b[start..]);
     }
-    Least::Refused(Refusal::Idle)
+    Err(Refusal::Idle)
 }

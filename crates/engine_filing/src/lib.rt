@@ -34,13 +34,11 @@ fn walk_back(b: &[u8], n: u16, o: u32, s: u16, e: Event, a: u16, fuel: u16) -> u
     ensures { result ≡ steps (prev_of b.now o) (stop_at b.now n s e) fuel a }
 {
     let mut at = a;
-    let mut left = fuel;
-    while 0 < left {
+    for _ in 0..fuel {
         if stops(b, n, s, e, at) {
             return at;
         }
         at = rings::prev(b, o, at);
-        left -= 1;
     }
     at
 }

@@ -192,10 +192,6 @@ module _ (n c : ℕ) where
 
 -- ---- turns of the loops
 
-pub emptied_on : (xs : List ℕ) (o k m : ℕ) {ys zs : List ℕ} → ys ≡ emptied xs o k m → zs ≡ empty_at ys o k m → zs ≡ emptied xs o k (m + 1)
-unfolding emptied
-emptied_on xs o k m ey ez = rw (add-one, ← ey) ez
-
 pub filled_on : (xs : List ℕ) (n o k i : ℕ) {x : ℕ} {ys zs us : List ℕ} → ys ≡ filled xs n o k i → zs ≡ store_at 2 (slot_row n i + 56 + 2 * 2) 0 ys
     → x ≡ node_of n i → us ≡ link_after zs o k (x - 1) x → us ≡ filled xs n o k (i + 1)
 unfolding filled
@@ -205,17 +201,6 @@ filled_on xs n o k i {x} {ys} {zs} {us} ey ez ex eu =
     rw (add-one, ← ey)
     (eu ∙ ap₂ (λ (y z : ℕ). link_after zs o k y z) p ex
     ∙ ap (λ (t : List ℕ). link_after t o k (2 * n + i) (2 * n + 1 + i)) (ez ∙ ap (λ (m : ℕ). store_at 2 m 0 ys) a))
-
-pub emptied_none : (xs : List ℕ) (o k : ℕ) → xs ≡ emptied xs o k 0
-unfolding emptied
-emptied_none xs o k = refl
-
-pub filled_none : (xs : List ℕ) (n o k : ℕ) → xs ≡ filled xs n o k 0
-unfolding filled
-filled_none xs n o k = refl
-
-pub at_end : {A : Type 0} (f : ℕ → A) {x : A} (i m : ℕ) → x ≡ f i → i ≤ m → m ≤ i → x ≡ f m
-at_end f i m e a b = let q : i ≡ m = omega arith in e ∙ ap f q
 
 -- ---- frames
 

@@ -75,27 +75,25 @@ pub fn release(b: &mut [u8], n: u16, c: u16, x: u16)
 // ---- all slots
 
 // Nodes 0 to m - 1 are alone in their rings.
+#[tactic(auto, unfolding(engine_index::specs::Steps::emptied))]
 fn empty_rings(b: &mut [u8], o: u32, k: u16, m: u16)
     ensures { b.new ≡ emptied b.old o k m }
 {
-    let mut s: u16 = 0;
-    while s < m {
+    for s in 0..m {
         rings::make_empty(b, o, k, s);
-        s += 1;
     }
 }
 
 // Slots 0 to c - 1 are free, and in the free ring in this order.
+#[tactic(auto, unfolding(engine_index::specs::Steps::filled), using(crate::proofs::Clearing::filled_on))]
 fn free_slots(b: &mut [u8], n: u16, o: u32, k: u16, c: u16)
     requires { (n ≤ 256) × (c ≤ 4096) }
     ensures { b.new ≡ filled b.old n o k c }
 {
-    let mut i: u16 = 0;
-    while i < c {
+    for i in 0..c {
         let x = engine_index::node_of(n, i);
         engine_rows::set_number(b, n, i, engine_rows::STATUS, engine_rows::FREE);
         rings::insert_after(b, o, k, x - 1, x);
-        i += 1;
     }
 }
 

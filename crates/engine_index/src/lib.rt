@@ -20,10 +20,7 @@ ghost use Rattle.engine_index.specs.Layout.{links_at, run_ring, free_ring, node_
 pub fn in_range(n: u16, c: u16) -> bool
     ensures { result ≡ in_range n c }
 {
-    if 256 < n {
-        return false;
-    }
-    c <= 4096
+    n <= 256 && c <= 4096
 }
 
 // Where the links start.
@@ -83,12 +80,8 @@ pub fn slot(n: u16, x: u16) -> u16
 pub fn slot_in(b: &[u8], n: u16, c: u16, x: u16) -> u16
     ensures { result ≡ slot_found n c (length b.now) x }
 {
-    if in_range(n, c) {
-        if log(n, c) as usize + 4 * nodes(n, c) as usize <= b.len() {
-            if 2 * n < x {
-                return x - (2 * n + 1);
-            }
-        }
+    if in_range(n, c) && log(n, c) as usize + 4 * nodes(n, c) as usize <= b.len() && 2 * n < x {
+        return x - (2 * n + 1);
     }
     c
 }

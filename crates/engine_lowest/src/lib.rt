@@ -5,106 +5,73 @@
 
 #![tactic(auto)]
 
-ghost use Rattle.std.specs.Prelude.{◌≡◌};
 ghost use Rattle.rules.specs.Engine.Call.{RunLowest};
 ghost use Rattle.engine_promises.specs.Answers.{lowest_said};
 ghost use Rattle.engine_promises.specs.Promises.{Answered, TellsNext};
-ghost use Rattle.engine_lowest.specs.Steps.{JudgesLowest, with_words};
+ghost use Rattle.engine_lowest.specs.Steps.{JudgesLowest};
 
 use calendar_answers::Least;
-use engine_answers::{LowestAnswer, NextAnswer, RunAnswer};
+use engine_answers::{LowestAnswer, NextAnswer};
 use refusal::Refusal;
 
-// What judging a run lowest finds: the station that the calendar names and the bitmap words that it read, with the line's numbers of stations and slots,
-// or the refusal.
+// What judging a run lowest finds: the station that the calendar names and the bitmap words that it read, with the line's numbers of stations and slots.
 #[derive(Clone, Copy)]
-enum LowestJudged {
-    Accepts {
-        n: u16,
-        c: u16,
-        station: u16,
-        words: u64,
-    },
-    Refused(Refusal),
+struct LowestRun {
+    n: u16,
+    c: u16,
+    station: u16,
+    words: u64,
 }
 
 // A run lowest is judged, but for what refuses the run of its station.
-fn judge_lowest(b: &[u8]) -> LowestJudged
+fn judge_lowest(b: &[u8]) -> Result<LowestRun, Refusal>
     ensures { JudgesLowest b.now result }
 {
     let n = engine_promises::stations(b);
     let c = engine_promises::capacity(b);
     if !engine_events::fits(b, n, c) {
-        return LowestJudged::Refused(Refusal::Space);
+        return Err(Refusal::Space);
     }
-    let Least::At {
-        station,
-        time: _,
-        words,
-    } = engine_events::lowest(b, n, c)
-    else {
-        return LowestJudged::Refused(Refusal::Idle);
-    };
+    let Least { station, words, .. } = engine_events::lowest(b, n, c)?;
     if 65535 < station {
-        return LowestJudged::Refused(Refusal::Station);
+        return Err(Refusal::Station);
     }
     let station = station as u16;
-    LowestJudged::Accepts {
+    Ok(LowestRun {
         n,
         c,
         station,
         words,
-    }
-}
-
-// A run's answer, with the bitmap words that were read to find its station.
-fn with_words(r: RunAnswer, words: u64) -> LowestAnswer
-    ensures { result ≡ with_words r words }
-{
-    match r {
-        RunAnswer::Refused(e) => LowestAnswer::Refused(e),
-        RunAnswer::Done { station, undone } => LowestAnswer::Done {
-            station,
-            undone,
-            words,
-        },
-    }
+    })
 }
 
 // The first unrun event of the station that the calendar names is run; answered with the bitmap words that it read.
-pub fn run_lowest(b: &mut [u8]) -> LowestAnswer
+pub fn run_lowest(b: &mut [u8]) -> Result<LowestAnswer, Refusal>
     ensures { Answered RunLowest (lowest_said result) b.old b.new }
 {
-    match judge_lowest(b) {
-        LowestJudged::Refused(e) => LowestAnswer::Refused(e),
-        LowestJudged::Accepts {
-            n,
-            c,
-            station,
-            words,
-        } => {
-            let ran = engine_running::run_at(b, n, c, station);
-            with_words(ran, words)
-        }
-    }
+    let LowestRun {
+        n,
+        c,
+        station,
+        words,
+    } = judge_lowest(b)?;
+    let ran = engine_running::run_at(b, n, c, station)?;
+    Ok(LowestAnswer {
+        station: ran.station,
+        undone: ran.undone,
+        words,
+    })
 }
 
 // The station that the calendar names, with the time of its first unrun event.
-pub fn next(b: &[u8]) -> NextAnswer
+pub fn next(b: &[u8]) -> Result<NextAnswer, Refusal>
     ensures { TellsNext b.now result }
 {
     let n = engine_promises::stations(b);
     let c = engine_promises::capacity(b);
     if !engine_events::fits(b, n, c) {
-        return NextAnswer::Refused(Refusal::Space);
+        return Err(Refusal::Space);
     }
-    let Least::At {
-        station,
-        time,
-        words: _,
-    } = engine_events::lowest(b, n, c)
-    else {
-        return NextAnswer::Refused(Refusal::Idle);
-    };
-    NextAnswer::At { station, time }
+    let Least { station, time, .. } = engine_events::lowest(b, n, c)?;
+    Ok(NextAnswer { station, time })
 }

@@ -10,7 +10,8 @@ use Rattle.line.specs.Station.{Plan}
 use Rattle.rules.specs.Held.{Held, unrun, event, In, Queue}
 use Rattle.rules.proofs.Undo.RunFirst.{first_in}
 use Rattle.rules.proofs.Replay.Registered.{registered_first}
-use Rattle.calendar_answers.specs.declared.Answer.{Answer}
+use Rattle.std.specs.Prelude.{Result}
+use Rattle.refusal.specs.declared.Refusal.{Refusal}
 use Rattle.calendar_header.specs.Rules.{advance_checks, advanced}
 use Rattle.calendar_header.specs.Bytes.{state_of}
 use Rattle.calendar_header.specs.Promises.{Obeys}
@@ -43,7 +44,7 @@ stores_at floor f S =
       kids = S.kids;
     }
 
-pub raised : (n c floor : ℕ) {start : ℕ} (xs zs : List ℕ) {r : Answer} → start ≡ calendar_at n c → start ≤ length xs
+pub raised : (n c floor : ℕ) {start : ℕ} (xs zs : List ℕ) {r : Result Unit Refusal} → start ≡ calendar_at n c → start ≤ length xs
     → length zs ≡ length (take (length xs - start) (drop start xs))
     → Obeys (λ q. advance_checks q floor) (λ q. advanced q floor) (take (length xs - start) (drop start xs)) r zs
     → AfterHeader xs (put_mid start (length xs - start) xs zs) × Raises n c floor xs (put_mid start (length xs - start) xs zs)
@@ -55,7 +56,7 @@ raised n c floor {start} xs zs {r} ls long size O = (
       let early = any_false floor (state_of (part n c xs)).times
       (λ x u e. let g = registered_first x q.held u (has_registered x u C.shows e) in omega (arith, f (unrun g.0) (first_in g.1), g.2)) in
       let done = accepted_done r (O.answer C.sound ∙ advance_accepted (state_of (part n c xs)) floor b (omega (arith, C.floor)) early) in
-      let state : state_of zs ≡ advanced (state_of (part n c xs)) floor = O.state C.sound done in
+      let state : state_of zs ≡ advanced (state_of (part n c xs)) floor = rw done at (O.state C.sound) in
       record {
         stores = stores_at floor f (stores_kept put.1.1 (inr (omega arith)) H.stores);
         calendar = record {

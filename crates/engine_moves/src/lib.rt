@@ -1,7 +1,7 @@
 // One event is held, run, unrun, discarded or released: its slot with its index, its station's state and the calendar are changed together.
 //
-// The calendar is told the time of a station's first unrun event when that may have changed. Each function takes any bytes and any numbers; n stations and
-// c slots are the header's.
+// The calendar is told the time of a station's first unrun event when that may have changed. On an engine's bytes it refuses none of these calls, so that
+// its answers are left. Each function takes any bytes and any numbers; n stations and c slots are the header's.
 
 #![tactic(auto)]
 
@@ -27,11 +27,11 @@ fn tell(b: &mut [u8], n: u16, c: u16, s: u16)
     let start = engine_events::calendar_start(n, c) as usize;
     let x = engine_ends::first_unrun(b, n, c, s);
     if x == 0 {
-        calendar::unregister(&mut b[start..], s as u64);
+        let _ = calendar::unregister(&mut b[start..], s as u64);
         return;
     }
     let t = engine_rows::time(b, n, engine_index::slot(n, x));
-    calendar::register(&mut b[start..], s as u64, t);
+    let _ = calendar::register(&mut b[start..], s as u64, t);
 }
 
 // ---- the changes
@@ -139,7 +139,7 @@ pub fn raise(b: &mut [u8], n: u16, c: u16, floor: u64)
 {
     if engine_events::fits(b, n, c) {
         let start = engine_events::calendar_start(n, c) as usize;
-        calendar::advance(&mut b[start..], floor);
+        let _ = calendar::advance(&mut b[start..], floor);
     }
 }
 
@@ -150,7 +150,7 @@ pub fn clear(b: &mut [u8], n: u16, c: u16, arity: u64, width: u64)
 {
     if engine_events::fits(b, n, c) {
         let start = engine_events::calendar_start(n, c) as usize;
-        calendar::open(n as u64, arity, width, &mut b[start..]);
+        let _ = calendar::open(n as u64, arity, width, &mut b[start..]);
         engine_freeing::clear(b, n, c);
     }
 }

@@ -4,6 +4,7 @@ use mathlib.Core.List.{List, []}
 use Prim.Native.Nat.{ℕ, ◌+◌, ◌*◌, ◌≤◌, ◌<◌}
 use native.Mathlib.Omega.{arith}
 use lib.ListN.{length}
+use Rattle.std.specs.Prelude.{Result, Ok, Err}
 use Rattle.refusal.specs.declared.Refusal.{Refusal}
 use Rattle.refusal.specs.Numbers.{stations_of}
 use Rattle.refusal.specs.Tests.{judged}
@@ -14,8 +15,6 @@ use Rattle.words.proofs.Laws.{length_store}
 use Rattle.line.specs.Station.{InRange, initial}
 use Rattle.rules.specs.Engine.{chosen, opened}
 use Rattle.rules.specs.Demand.{end}
-use Rattle.plan_format.specs.declared.ReadAnswer.{ReadAnswer}
-use Rattle.plan_format.specs.declared.ReadAnswer.TheVariants.{Stations, Refused as Unread}
 use Rattle.plan_format.specs.Plan.{count, station_at}
 use Rattle.plan_format.specs.Reading.{judging}
 use Rattle.plan_format.proofs.Accepted.{Accepted, accepted, accepted_in_range}
@@ -25,19 +24,17 @@ use Rattle.engine_rows.proofs.Rows.{word_in, config_in, state_in, header_station
 use Rattle.engine_events.specs.Represents.{Holds}
 use Rattle.engine_events.specs.Promises.{AfterHeader}
 use Rattle.engine_moves.specs.Promises.{ClearsEvents}
-use Rattle.engine_answers.specs.declared.OpenAnswer.{OpenAnswer}
-use Rattle.engine_answers.specs.declared.OpenAnswer.TheVariants.{Done, Refused as Unopened}
 use Rattle.plan_format.specs.Line.{line_of}
 use Rattle.engine_promises.specs.Represents.{Represents}
 use Rattle.engine_promises.specs.Answers.{open_says, open_station}
-use Rattle.engine_promises.specs.Promises.{choice_cases, open_cases, Opens}
+use Rattle.engine_promises.specs.Promises.{open_cases, Opens}
 use Rattle.engine_opening.specs.Steps.{StationsBegun}
 use Rattle.engine_opening.proofs.Choice.{Passes, passes}
-use Rattle.engine_promises.proofs.OpeningOrder.{opening, opening_is}
+use Rattle.engine_promises.proofs.OpeningOrder.{choosing, opening, opening_is}
 use Rattle.engine_promises.proofs.Header.{header_word, header_other, header_kept}
 
-pub few_stations : (plan : List ℕ) {n : ℕ} {r : ReadAnswer} → r ≡ judging plan → r ≡ Stations n → n ≤ 256
-few_stations plan {n} e f = (accepted plan n (sym e ∙ f)).most
+pub few_stations : (plan : List ℕ) {n : ℕ} → Ok n ≡ judging plan → n ≤ 256
+few_stations plan {n} e = (accepted plan n (sym e)).most
 
 -- ---- the header
 
@@ -61,12 +58,12 @@ line_count : (plan : List ℕ) → (line_of plan).count ≡ count plan
 unfolding line_of
 line_count plan = refl
 
-line_range : (plan : List ℕ) (n : ℕ) → judging plan ≡ Stations n → InRange (line_of plan)
+line_range : (plan : List ℕ) (n : ℕ) → judging plan ≡ Ok n → InRange (line_of plan)
 unfolding line_of
 line_range plan n e =
     subst (λ (k : ℕ). InRange (record { count = k; config = λ s. (station_at plan s).config })) (accepted plan n e).counted (accepted_in_range plan n e)
 
-module _ {plan : List ℕ} {n c arity width : ℕ} {xs ys zs : List ℕ} (e : judging plan ≡ Stations n) (P : Passes n arity width c (length xs))
+module _ {plan : List ℕ} {n c arity width : ℕ} {xs ys zs : List ℕ} (e : judging plan ≡ Ok n) (P : Passes n arity width c (length xs))
     (B : StationsBegun plan n xs ys) (F : AfterHeader (headed n c ys) zs)
     (C : ClearsEvents n c arity width (headed n c ys) zs) where
   a : Accepted plan n
@@ -118,19 +115,19 @@ module _ {plan : List ℕ} {n c arity width : ℕ} {xs ys zs : List ℕ} (e : ju
 -- ---- the call
 
 -- what an answer says that is the first of the cases
-module _ (plan : List ℕ) (arity width capacity : ℕ) (xs : List ℕ) {r : OpenAnswer} (e : r ≡ opening (judging plan) arity width capacity (length xs)) where
-  first_is : r ≡ first_of Unopened (open_cases plan arity width capacity (length xs)) Done
+module _ (plan : List ℕ) (arity width capacity : ℕ) (xs : List ℕ) {r : Result Unit Refusal} (e : r ≡ opening (judging plan) arity width capacity (length xs)) where
+  first_is : r ≡ first_of Err (open_cases plan arity width capacity (length xs)) (Ok tt)
   first_is = e ∙ opening_is plan arity width capacity (length xs)
 
   number_is : open_says r ≡ judged (checks_of (open_cases plan arity width capacity (length xs)))
-  number_is = ap open_says first_is ∙ first_judged open_says Unopened (open_cases plan arity width capacity (length xs)) Done (λ f. refl) refl
+  number_is = ap open_says first_is ∙ first_judged open_says Err (open_cases plan arity width capacity (length xs)) (Ok tt) (λ f. refl) refl
 
   station_is : open_station r ≡ first_of stations_of (open_cases plan arity width capacity (length xs)) []
-  station_is = ap open_station first_is ∙ first_mapped open_station Unopened (open_cases plan arity width capacity (length xs)) Done
+  station_is = ap open_station first_is ∙ first_mapped open_station Err (open_cases plan arity width capacity (length xs)) (Ok tt)
 
 -- a refusal changes nothing
-unopened : {plan : List ℕ} {arity width capacity : ℕ} {xs : List ℕ} (r : Refusal) → Unopened r ≡ opening (judging plan) arity width capacity (length xs)
-    → Opens plan arity width capacity xs (Unopened r) xs
+unopened : {plan : List ℕ} {arity width capacity : ℕ} {xs : List ℕ} (r : Refusal) → Err r ≡ opening (judging plan) arity width capacity (length xs)
+    → Opens plan arity width capacity xs (Err r) xs
 unopened {plan} {arity} {width} {capacity} {xs} r e = record {
   answer = first_is plan arity width capacity xs e;
   number = number_is plan arity width capacity xs e;
@@ -139,32 +136,32 @@ unopened {plan} {arity} {width} {capacity} {xs} r e = record {
   opens = λ q. let z : ◌≡◌ {A = ℕ} 0 1 = cc in absurd (omega arith);
 }
 
-pub unread : {plan : List ℕ} {arity width capacity : ℕ} {xs : List ℕ} (r : Refusal) → Unread r ≡ judging plan
-    → Opens plan arity width capacity xs (Unopened r) xs
+pub unread : {plan : List ℕ} {arity width capacity : ℕ} {xs : List ℕ} (r : Refusal) → Err r ≡ judging plan
+    → Opens plan arity width capacity xs (Err r) xs
 unread {arity = arity} {width = width} {capacity = capacity} {xs = xs} r e =
-    unopened r (ap (λ (a : ReadAnswer). opening a arity width capacity (length xs)) e)
+    unopened r (ap (λ (a : Result ℕ Refusal). opening a arity width capacity (length xs)) e)
 
 -- what the numbers after the plan's say
-pub unchosen : {plan : List ℕ} {n arity width capacity : ℕ} {xs : List ℕ} {a : OpenAnswer} (r : Refusal) → judging plan ≡ Stations n
-    → a ≡ first_of Unopened (choice_cases n arity width capacity (length xs)) Done → a ≡ Unopened r
-    → Opens plan arity width capacity xs (Unopened r) xs
-unchosen {arity = arity} {width = width} {capacity = capacity} {xs = xs} r e f g =
-    unopened r (sym g ∙ f ∙ sym (ap (λ (a : ReadAnswer). opening a arity width capacity (length xs)) e))
+pub unchosen : {plan : List ℕ} {n arity width capacity : ℕ} {xs : List ℕ} (r : Refusal) → judging plan ≡ Ok n
+    → Err r ≡ choosing n arity width capacity (length xs)
+    → Opens plan arity width capacity xs (Err r) xs
+unchosen {arity = arity} {width = width} {capacity = capacity} {xs = xs} r e f =
+    unopened r (f ∙ sym (ap (λ (a : Result ℕ Refusal). opening a arity width capacity (length xs)) e))
 
-pub opened_call : {plan : List ℕ} {n c arity width : ℕ} {xs y₀ y₁ y₂ y₃ y₄ zs : List ℕ} {a : OpenAnswer} → judging plan ≡ Stations n
-    → a ≡ first_of Unopened (choice_cases n arity width c (length xs)) Done → a ≡ Done
+pub opened_call : {plan : List ℕ} {n c arity width : ℕ} {xs y₀ y₁ y₂ y₃ y₄ zs : List ℕ} → judging plan ≡ Ok n
+    → Ok tt ≡ choosing n arity width c (length xs)
     → StationsBegun plan n xs y₀ → y₁ ≡ store_at 8 0 n y₀ → y₂ ≡ store_at 8 8 c y₁ → y₃ ≡ store_at 8 16 0 y₂
-    → y₄ ≡ store_at 8 24 0 y₃ → AfterHeader y₄ zs → ClearsEvents n c arity width y₄ zs → Opens plan arity width c xs Done zs
-opened_call {plan} {n} {c} {arity} {width} {xs} {y₀} {y₁} {y₂} {y₃} {y₄} {zs} e f g B a₁ a₂ a₃ a₄ F C =
+    → y₄ ≡ store_at 8 24 0 y₃ → AfterHeader y₄ zs → ClearsEvents n c arity width y₄ zs → Opens plan arity width c xs (Ok tt) zs
+opened_call {plan} {n} {c} {arity} {width} {xs} {y₀} {y₁} {y₂} {y₃} {y₄} {zs} e f B a₁ a₂ a₃ a₄ F C =
     let q : y₄ ≡ headed n c y₀ = rw (a₄, a₃, a₂, a₁) in
     let F' = subst (λ (us : List ℕ). AfterHeader us zs) q F in
     let C' = subst (λ (us : List ℕ). ClearsEvents n c arity width us zs) q C in
-    let d : Done ≡ opening (judging plan) arity width c (length xs) =
-    sym g ∙ f ∙ sym (ap (λ (a : ReadAnswer). opening a arity width c (length xs)) e) in
+    let d : Ok tt ≡ opening (judging plan) arity width c (length xs) =
+    f ∙ sym (ap (λ (a : Result ℕ Refusal). opening a arity width c (length xs)) e) in
     record {
       answer = first_is plan arity width c xs d;
       number = number_is plan arity width c xs d;
       station = station_is plan arity width c xs d;
       refusal = λ r z. let z : ◌≡◌ {A = ℕ} 0 1 = cc in absurd (omega arith);
-      opens = λ _. opens e (passes n arity width c (length xs) (sym f ∙ g)) B F' C';
+      opens = λ _. opens e (passes n arity width c (length xs) (sym f)) B F' C';
     }

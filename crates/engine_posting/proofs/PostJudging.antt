@@ -1,19 +1,19 @@
 -- A post is judged: each number refuses what the rules say, in their order, and else the event is the post's.
-use mathlib.Core.Path.{◌≡◌, sym, ap, ◌∙◌}
+use mathlib.Core.Path.{◌≡◌, sym, ap, ◌∙◌, subst}
 use mathlib.Core.Bool.{true, false}
 use mathlib.Core.List.{List}
 use Prim.Native.Nat.{ℕ, ◌≤◌, ◌<◌}
 use native.Mathlib.Omega.{arith}
 use borrow.Author.Tests.{leb-true, leb-false}
 use lib.ListN.{length}
+use Rattle.std.specs.Prelude.{[], ◌∷◌, Ok, Err}
 use Rattle.words.specs.Le.{load_at}
-use Rattle.refusal.specs.Tests.{horizon, refused}
+use Rattle.refusal.specs.Tests.{horizon, refused, says, or_next, judged}
 use Rattle.refusal.specs.declared.Refusal.{Refusal}
 use Rattle.refusal.specs.Numbers.{number_of}
 use Rattle.line.specs.declared.Matter.{Matter}
-use Rattle.line.specs.declared.Meant.TheVariants.{Means, Refused as Unsuited}
 use Rattle.line.specs.Event.{posted}
-use Rattle.line.specs.Matter.{matter_of}
+use Rattle.line.specs.Matter.{matter_of, meant_says, unsuited}
 use Rattle.line.specs.Station.{Plan}
 use Rattle.rules.specs.Engine.{Engine, Post}
 use Rattle.rules.specs.Calls.{post_of}
@@ -21,13 +21,10 @@ use Rattle.engine_rollback.proofs.Cells.{held_length}
 use Rattle.engine_promises.specs.Represents.{Represents}
 use Rattle.engine_promises.specs.Steps.{at_most, JudgesCall, Full}
 use Rattle.engine_promises.proofs.Header.{fits_read}
+use Rattle.engine_promises.proofs.Refused.{judges_refusal}
 use Rattle.engine_promises.proofs.PostRunChecks.{post_9, post_10, post_11, post_12, post_16, post_17, post_accepted}
-use Rattle.engine_posting.specs.declared.PostJudged.TheVariants as P
+use Rattle.engine_posting.specs.declared.NewPost.{NewPost}
 use Rattle.engine_posting.specs.Steps.{JudgesPost}
-
--- a refusal
-pub post_refused : {s t kind value : ℕ} {xs : List ℕ} (r : Refusal) → JudgesCall (Post s t kind value) (refused (number_of r)) xs → JudgesPost s t kind value xs (P.Refused r)
-post_refused r f = record { number = f; event = λ n c x q. let z : ◌≡◌ {A = ℕ} 0 1 = cc in absurd (omega arith) }
 
 module _ {xs : List ℕ} {n c : ℕ} (S : n ≡ at_most 256 (load_at 8 0 xs)) (K : c ≡ at_most 4096 (load_at 8 8 xs)) (s t kind value : ℕ) where
   stations_are : {p : Plan} {e : Engine} → Represents p e xs → p.count ≡ n
@@ -40,11 +37,18 @@ module _ {xs : List ℕ} {n c : ℕ} (S : n ≡ at_most 256 (load_at 8 0 xs)) (K
   station_out h = record { says = λ p e R. post_9 p e s t kind value (omega (arith, stations_are R)) }
 
   module _ (h : s < n) where
-    pub matter_unsuited : (r : Refusal) → matter_of n kind value ≡ Unsuited r → JudgesCall (Post s t kind value) (refused 10) xs
+    matter_unsuited : (r : Refusal) → matter_of n kind value ≡ Err r → JudgesCall (Post s t kind value) (refused 10) xs
     matter_unsuited r k =
         record { says = λ p e R. post_10 p e s t kind value (omega (arith, stations_are R)) r (rw (stations_are R) k) }
 
-    module _ (m : Matter) (k : matter_of n kind value ≡ Means m) where
+    pub matter_refused : {e : Refusal} → Err e ≡ matter_of n kind value → meant_says (Err e) ≡ judged (says 10 (unsuited (matter_of n kind value)) ∷ [])
+        → JudgesPost s t kind value xs (Err e)
+    unfolding judged or_next
+    matter_refused {e} k j =
+        let q : refused (number_of e) ≡ refused 10 = j ∙ ap (λ a. judged (says 10 (unsuited a) ∷ [])) (sym k) in
+        judges_refusal (Post s t kind value) e (subst (λ v. JudgesCall (Post s t kind value) v xs) (sym q) (matter_unsuited e (sym k)))
+
+    module _ (m : Matter) (k : matter_of n kind value ≡ Ok m) where
       pub time_late : horizon < t → JudgesCall (Post s t kind value) (refused 11) xs
       time_late l =
           record { says = λ p e R. post_11 p e s t kind value (omega (arith, stations_are R)) m (rw (stations_are R) k) l }
@@ -75,7 +79,7 @@ module _ {xs : List ℕ} {n c : ℕ} (S : n ≡ at_most 256 (load_at 8 0 xs)) (K
                       (omega (arith, y, held_length R.cells, ap length R.holds.stores.held));
                 }
 
-            pub post_judged : Full n c xs false → JudgesPost s t kind value xs (P.Accepts n c (record { time = t; target = s; source = posted; number = number; matter = m }))
+            pub post_judged : Full n c xs false → JudgesPost s t kind value xs (Ok (record { n = n; c = c; event = record { time = t; target = s; source = posted; number = number; matter = m } }))
             unfolding post_of
             post_judged f = record {
               number = record {
@@ -87,15 +91,14 @@ module _ {xs : List ℕ} {n c : ℕ} (S : n ≡ at_most 256 (load_at 8 0 xs)) (K
                     post_accepted p e s t kind value (omega arith) m (rw a k) l (omega (arith, i, R.now)) (omega (arith, j, R.next))
                     (omega (arith, y, held_length R.cells, ap length R.holds.stores.held));
               };
-              event = λ n' c' x q p e R.
-                  let z₁ : n ≡ n' = cc in
-                  let z₂ : c ≡ c' = cc in
-                  let z₃ : record { time = t; target = s; source = posted; number = number; matter = m } ≡ x = cc in
-                  record {
-                    stations = stations_are R ∙ z₁;
-                    capacity = capacity_is R ∙ z₂;
+              found = λ f' q p e R.
+                  let z : ◌≡◌ {A = NewPost} (record { n = n; c = c; event = record { time = t; target = s; source = posted; number = number; matter = m } }) f' = cc in
+                  rw (← z)
+                  (record {
+                    stations = stations_are R;
+                    capacity = capacity_is R;
                     matter = m;
                     means = rw (stations_are R) k;
-                    is = sym z₃ ∙ ap (λ (v : ℕ). record { time = t; target = s; source = posted; number = v; matter = m }) (j ∙ R.next);
-                  };
+                    is = ap (λ (v : ℕ). record { time = t; target = s; source = posted; number = v; matter = m }) (j ∙ R.next);
+                  });
             }

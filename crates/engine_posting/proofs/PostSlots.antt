@@ -8,6 +8,7 @@ use Prim.Native.Nat.{ℕ, ◌+◌, ◌*◌, ◌<◌}
 use native.Mathlib.Omega.{arith}
 use borrow.Author.Tests.{eq-eqb, ne_eqb, eqb-true}
 use lib.Dec.{eqb}
+use Rattle.std.specs.Prelude.{Some, None}
 use Rattle.words.specs.Le.{load_at}
 use Rattle.line.specs.declared.Event.{Event}
 use Rattle.line.specs.Event.{posted}
@@ -88,9 +89,11 @@ module _ {p : Plan} {setting : Setting} {n c now : ℕ} {xs : List ℕ} {q : Que
 
 -- ---- the search
 
-pub finds_none : (n c number : ℕ) (xs : List ℕ) → ((i : ℕ) → i < c → is_post_at xs n i number ≡ false) → FindsPost n c number xs 0
-finds_none n c number xs f = record { none = λ p setting now q cells H e. no_post H number f; some = λ p setting now q cells H d. absurd (d refl) }
+pub finds_none : (n c number : ℕ) (xs : List ℕ) → ((i : ℕ) → i < c → is_post_at xs n i number ≡ false) → FindsPost n c number xs None
+finds_none n c number xs f = record { none = λ p setting now q cells H e. no_post H number f; some = λ p setting now q cells H x d. let z : ◌≡◌ {A = ℕ} 0 1 = cc in absurd (omega arith) }
 
-pub finds_at : (n c number : ℕ) (xs : List ℕ) (i : ℕ) {x : ℕ} → x ≡ 2 * n + 1 + i → i < c → is_post_at xs n i number ≡ true → FindsPost n c number xs x
-finds_at n c number xs i e l t =
-    rw e (record { none = λ p setting now q cells H z. absurd (omega arith); some = λ p setting now q cells H d. a_post H number i l t })
+pub finds_at : (n c number : ℕ) (xs : List ℕ) (i : ℕ) {x : ℕ} → x ≡ 2 * n + 1 + i → i < c → is_post_at xs n i number ≡ true → FindsPost n c number xs (Some x)
+finds_at n c number xs i {x} e l t = record {
+  none = λ p setting now q cells H y. let z : ◌≡◌ {A = ℕ} 0 1 = cc in absurd (omega arith);
+  some = λ p setting now q cells H y d. let z : y ≡ 2 * n + 1 + i = cc in rw z (a_post H number i l t);
+}

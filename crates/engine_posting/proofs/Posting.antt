@@ -5,18 +5,16 @@ use Prim.Native.Nat.{ℕ, suc, ◌+◌, ◌≤◌, ◌<◌}
 use native.Mathlib.Omega.{arith}
 use native.Mathlib.Numerals.{add-one}
 use lib.ListN.{length}
+use Rattle.std.specs.Prelude.{Ok}
 use Rattle.words.specs.Le.{store_at}
-use Rattle.refusal.specs.declared.Refusal.{Refusal}
-use Rattle.refusal.specs.Numbers.{number_of}
 use Rattle.refusal.specs.Tests.{accepted, judged}
 use Rattle.line.specs.declared.Event.{Event}
 use Rattle.line.specs.declared.Matter.{Matter}
-use Rattle.line.specs.declared.Meant.TheVariants.{Means}
 use Rattle.line.specs.Matter.{matter_of}
 use Rattle.line.specs.Station.{Plan}
 use Rattle.rules.specs.Held.{unrun, Queue, undone}
 use Rattle.rules.specs.Undo.{Does, Add}
-use Rattle.rules.specs.Engine.{Engine, Post, Refused, Posted}
+use Rattle.rules.specs.Engine.{Engine, Post, Posted}
 use Rattle.rules.specs.Checks.{checks}
 use Rattle.rules.specs.Calls.{post_of, Answers, post, after_post}
 use Rattle.rules.specs.Demand.{posts, retracted, logs}
@@ -35,19 +33,17 @@ use Rattle.engine_rollback.specs.Promises.{Adds}
 use Rattle.engine_rollback.proofs.Cells.{held_length}
 use Rattle.engine_promises.specs.Represents.{Represents}
 use Rattle.engine_promises.specs.Promises.{Becomes, Answered}
-use Rattle.engine_posting.specs.declared.PostJudged.{PostJudged}
-use Rattle.engine_posting.specs.declared.PostJudged.TheVariants as P
-use Rattle.engine_posting.specs.Steps.{post_verdict, JudgesPost, AddsPost}
+use Rattle.engine_posting.specs.declared.NewPost.{NewPost}
+use Rattle.engine_posting.specs.Steps.{JudgesPost, AddsPost}
 use Rattle.engine_promises.proofs.Invariant.{made, invariant, neat, waiting, mid, reached_next}
 use Rattle.engine_promises.proofs.Header.{header_frame, header_word, header_other, header_kept, header_holds, stations_few}
 use Rattle.engine_promises.proofs.PostRunChecks.{PostPasses, post_passes}
 use Rattle.engine_promises.proofs.NewEvents.{as_new}
-use Rattle.engine_promises.proofs.Refused.{judged_refused}
 
 -- ---- an accepted post
 
 module _ {p : Plan} {e : Engine} {xs : List ℕ} (R : Represents p e xs) (s t kind value : ℕ) (a : judged (checks p e (Post s t kind value)) ≡ accepted)
-    (m : Matter) (k : matter_of p.count kind value ≡ Means m) {node j : ℕ} {ys : List ℕ} (F : AfterHeader xs ys)
+    (m : Matter) (k : matter_of p.count kind value ≡ Ok m) {node j : ℕ} {ys : List ℕ} (F : AfterHeader xs ys)
     (D : Adds p.count e.setting.capacity xs (post_of e.next s t m) node j ys) where
   passes : PostPasses p e s t
   passes = post_passes p e s t kind value a
@@ -138,17 +134,13 @@ added_post {n} {c} {x} {xs} {ys} {zs} {node} {u} F D y p e s t kind value R a B 
 
 -- ---- the call
 
-module _ {s t kind value : ℕ} {xs : List ℕ} {j : PostJudged} (J : JudgesPost s t kind value xs j) where
-  pub post_refusal : {r : Refusal} → j ≡ P.Refused r → Answered (Post s t kind value) (Refused (number_of r)) xs xs
-  post_refusal {r} q = judged_refused (Post s t kind value) (number_of r) J.number (ap post_verdict q)
-
-  pub post_done : {n c : ℕ} {x : Event} → j ≡ P.Accepts n c x → {u : ℕ} {ys : List ℕ} → AddsPost n c x xs u ys
-      → Answered (Post s t kind value) (Posted x.number u) xs ys
-  unfolding post_of
-  post_done {n} {c} {x} q {u} {ys} D = record {
-    refusal = λ k z. let y : ◌≡◌ {A = ℕ} 0 1 = cc in absurd (omega arith);
-    answer = λ p e R.
-        let B = J.event n c x q p e R in
-        let i : x.number ≡ e.next = ap (λ (v : Event). v.number) B.is in
-        rw i (D p e s t kind value R (J.number.says p e R ∙ ap post_verdict q) B);
-  }
+pub post_done : {s t kind value : ℕ} {xs : List ℕ} {f : NewPost} → JudgesPost s t kind value xs (Ok f) → {u : ℕ} {ys : List ℕ} → AddsPost f.n f.c f.event xs u ys
+    → Answered (Post s t kind value) (Posted f.event.number u) xs ys
+unfolding post_of
+post_done {s} {t} {kind} {value} {xs} {f} J {u} {ys} D = record {
+  refusal = λ k z. let y : ◌≡◌ {A = ℕ} 0 1 = cc in absurd (omega arith);
+  answer = λ p e R.
+      let B = J.found f refl p e R in
+      let i : f.event.number ≡ e.next = ap (λ (v : Event). v.number) B.is in
+      rw i (D p e s t kind value R (J.number.says p e R) B);
+}

@@ -1,19 +1,19 @@
 -- A retract: refused where no held post has the number, and else the only one with it is removed.
-use mathlib.Core.Path.{◌≡◌, refl, sym, ap, ◌∙◌, subst}
-use mathlib.Core.Logic.{◌≢◌}
+use mathlib.Core.Path.{◌≡◌, refl, sym, ◌∙◌, subst}
 use mathlib.Core.List.{List}
 use Prim.Native.Nat.{ℕ}
 use native.Mathlib.Omega.{arith}
+use Rattle.std.specs.Prelude.{Option, Some, ok_or, Ok, Err}
 use Rattle.words.specs.Le.{load_at}
 use Rattle.refusal.specs.declared.Refusal.{Refusal}
-use Rattle.refusal.specs.Numbers.{number_of}
+use Rattle.refusal.specs.declared.Refusal.TheVariants.{Post}
 use Rattle.refusal.specs.Tests.{accepted, refused, or_next, judged}
 use Rattle.line.specs.declared.Event.{Event}
 use Rattle.line.specs.Event.{posted}
 use Rattle.line.specs.Station.{Plan}
 use Rattle.rules.specs.Held.{Held, unrun, ran, event, In, Queue, Found, some, undone, held_post}
 use Rattle.rules.specs.Undo.{Does, Remove}
-use Rattle.rules.specs.Engine.{Engine, Retract, Refused, Retracted}
+use Rattle.rules.specs.Engine.{Engine, Retract, Retracted}
 use Rattle.rules.specs.Checks.{checks}
 use Rattle.rules.specs.Calls.{with, Answers, retract}
 use Rattle.rules.specs.Demand.{posts, retracted, logs}
@@ -29,14 +29,13 @@ use Rattle.engine_moves.proofs.Cells.Split.{held_in}
 use Rattle.engine_rollback.specs.BetweenSteps.{Mid, RollsTo}
 use Rattle.engine_rollback.specs.Promises.{Removes}
 use Rattle.engine_promises.specs.Represents.{Represents}
-use Rattle.engine_promises.specs.Steps.{at_most, JudgesCall}
-use Rattle.engine_posting.specs.declared.RetractJudged.{RetractJudged}
-use Rattle.engine_posting.specs.declared.RetractJudged.TheVariants as J
-use Rattle.engine_posting.specs.Steps.{FindsPost, retract_verdict, JudgesRetract}
+use Rattle.engine_promises.specs.Steps.{at_most}
+use Rattle.engine_posting.specs.declared.HeldPost.{HeldPost}
+use Rattle.engine_posting.specs.Steps.{FindsPost, JudgesRetract}
 use Rattle.engine_promises.specs.Promises.{Becomes, Answered}
 use Rattle.engine_promises.proofs.Invariant.{made, invariant, neat, waiting, reached_next}
 use Rattle.engine_promises.proofs.Header.{header_kept, fits_read}
-use Rattle.engine_promises.proofs.Refused.{judged_refused}
+use Rattle.engine_promises.proofs.Refused.{judges_refusal, ok_or_some, ok_or_none}
 use Rattle.engine_posting.proofs.OnePost.{the_post, waits_inserted, post_fresh}
 
 is_held : (h : Held) (hs : List Held) → In h hs → IsHeld (event h) hs
@@ -114,61 +113,51 @@ module _ {p : Plan} {e : Engine} {xs : List ℕ} (R : Represents p e xs) (number
     }
 
   -- as the call finds it
-  retract_found : {n c x k : ℕ} {ys : List ℕ} → p.count ≡ n → e.setting.capacity ≡ c → FindsPost n c number xs x → x ≢ 0 → AfterHeader xs ys
+  retract_found : {n c x k : ℕ} {ys : List ℕ} → p.count ≡ n → e.setting.capacity ≡ c → FindsPost n c number xs (Some x) → AfterHeader xs ys
       → Removes n c xs x k ys
       → Becomes p e (Retract number) (Retracted k) ys
-  retract_found {n} {c} {x} {k} {ys} a b f d F D =
-      let g : FindsPost p.count e.setting.capacity number xs x = rw (a, b) f in
+  retract_found {n} {c} {x} {k} {ys} a b f F D =
+      let g : FindsPost p.count e.setting.capacity number xs (Some x) = rw (a, b) f in
       let D' : Removes p.count e.setting.capacity xs x k ys = rw (a, b) D in
-      let r = g.some p e.setting e.now e.queue R.cells R.holds d in
+      let r = g.some p e.setting e.now e.queue R.cells R.holds x refl in
       retract_some r.0 r.1 r.2 r.3 F D'
 
 -- ---- judging
 
-pub retract_refused : {number : ℕ} {xs : List ℕ} (r : Refusal) → JudgesCall (Retract number) (refused (number_of r)) xs → JudgesRetract number xs (J.Refused r)
-retract_refused r f = record {
-  number_is = f;
-  numbers = λ n c x q. let z : ◌≡◌ {A = ℕ} 0 1 = cc in absurd (omega arith);
-  post = λ n c x q. let z : ◌≡◌ {A = ℕ} 0 1 = cc in absurd (omega arith);
-}
+module _ {xs : List ℕ} {n c number : ℕ} (k : n ≡ at_most 256 (load_at 8 0 xs)) (m : c ≡ at_most 4096 (load_at 8 8 xs)) where
+  finds : {r : Option ℕ} → FindsPost n c number xs r → {p : Plan} {e : Engine} → Represents p e xs → FindsPost p.count e.setting.capacity number xs r
+  finds f R = let w = fits_read R k m in rw (w.0, w.1) f
 
-module _ {xs : List ℕ} {n c number x : ℕ} (k : n ≡ at_most 256 (load_at 8 0 xs)) (m : c ≡ at_most 4096 (load_at 8 8 xs)) (f : FindsPost n c number xs x) where
-  finds : {p : Plan} {e : Engine} → Represents p e xs → FindsPost p.count e.setting.capacity number xs x
-  finds R = let w = fits_read R k m in rw (w.0, w.1) f
+  pub unknown_post : {r : Option ℕ} {e : Refusal} → FindsPost n c number xs r → ok_or r Post ≡ Err e → JudgesRetract number xs (Err e)
+  unknown_post {r} f q =
+      let z = ok_or_none r Post q in
+      rw z.1
+      (judges_refusal (Retract number) Post
+      (record { says = λ p e R. none_refused R number ((finds f R).none p e.setting e.now e.queue R.cells R.holds z.0) }))
 
-  pub unknown_post : x ≡ 0 → JudgesCall (Retract number) (refused 13) xs
-  unknown_post z = record { says = λ p e R. none_refused R number ((finds R).none p e.setting e.now e.queue R.cells R.holds z) }
-
-  pub known_post : x ≢ 0 → JudgesRetract number xs (J.Accepts n c x)
-  known_post d = record {
-    number_is = record {
-      says = λ p e R.
-          let g = (finds R).some p e.setting e.now e.queue R.cells R.holds d in
-          some_accepted R number (the_held R number g.0 g.1 g.2 g.3);
-    };
-    numbers = λ n' c' x' q p e R.
-        let w = fits_read R k m in
-        let z₁ : n ≡ n' = cc in
-        let z₂ : c ≡ c' = cc in
-        (w.0 ∙ z₁, w.1 ∙ z₂);
-    post = λ n' c' x' q.
-        let z₁ : n ≡ n' = cc in
-        let z₂ : c ≡ c' = cc in
-        let z₃ : x ≡ x' = cc in
-        rw (← z₁, ← z₂, ← z₃) (d, f);
-  }
+  pub known_post : {r : Option ℕ} {x : ℕ} → FindsPost n c number xs r → ok_or r Post ≡ Ok x
+      → JudgesRetract number xs (Ok (record { n = n; c = c; node = x }))
+  known_post {r} {x} f q =
+      let i = ok_or_some r Post q in
+      record {
+        number = record {
+          says = λ p e R.
+              let g = (finds f R).some p e.setting e.now e.queue R.cells R.holds x i in
+              some_accepted R number (the_held R number g.0 g.1 g.2 g.3);
+        };
+        found = λ h q.
+            let z : ◌≡◌ {A = HeldPost} (record { n = n; c = c; node = x }) h = cc in
+            rw (← z) (λ p e R. let w = fits_read R k m in (w.0, w.1), rw i at f);
+      }
 
 -- ---- the call
 
-module _ {number : ℕ} {xs : List ℕ} {j : RetractJudged} (I : JudgesRetract number xs j) where
-  pub retract_refusal : {r : Refusal} → j ≡ J.Refused r → Answered (Retract number) (Refused (number_of r)) xs xs
-  retract_refusal {r} q = judged_refused (Retract number) (number_of r) I.number_is (ap retract_verdict q)
-
-  pub retract_done : {n c x u : ℕ} {ys : List ℕ} → j ≡ J.Accepts n c x → AfterHeader xs ys → Removes n c xs x u ys → Answered (Retract number) (Retracted u) xs ys
-  retract_done {n} {c} {x} q F D = record {
-    refusal = λ i z. let y : ◌≡◌ {A = ℕ} 0 1 = cc in absurd (omega arith);
-    answer = λ p e R.
-        let f = I.post n c x q in
-        let w = I.numbers n c x q p e R in
-        retract_found R number w.0 w.1 f.1 f.0 F D;
-  }
+pub retract_done : {number : ℕ} {xs : List ℕ} {f : HeldPost} → JudgesRetract number xs (Ok f) → {u : ℕ} {ys : List ℕ} → AfterHeader xs ys → Removes f.n f.c xs f.node u ys
+    → Answered (Retract number) (Retracted u) xs ys
+retract_done {number} {f = f} J F D = record {
+  refusal = λ i z. let y : ◌≡◌ {A = ℕ} 0 1 = cc in absurd (omega arith);
+  answer = λ p e R.
+      let g = J.found f refl in
+      let w = g.0 p e R in
+      retract_found R number w.0 w.1 g.1 F D;
+}

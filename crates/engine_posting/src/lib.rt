@@ -12,8 +12,8 @@ ghost use Rattle.engine_promises.specs.Promises.{Answered};
 ghost use Rattle.engine_promises.specs.Steps.{Full};
 ghost use Rattle.engine_posting.specs.Steps.{is_post_at, FindsPost, JudgesPost, AddsPost, JudgesRetract};
 
-use engine_answers::{PostAnswer, RetractAnswer};
-use line::{Event, Meant};
+use engine_answers::PostAnswer;
+use line::Event;
 use refusal::{HORIZON, Refusal};
 
 // ---- post
@@ -25,49 +25,48 @@ fn full(b: &[u8], n: u16, c: u16) -> bool
     engine_ends::first_free(b, n, c) == 0
 }
 
-// What judging a post finds: its event, with the line's numbers of stations and slots, or the refusal.
+// What judging a post finds: its event, with the line's numbers of stations and slots.
 #[derive(Clone, Copy)]
-enum PostJudged {
-    Accepts { n: u16, c: u16, event: Event },
-    Refused(Refusal),
+struct NewPost {
+    n: u16,
+    c: u16,
+    event: Event,
 }
 
 // The post is judged. The event's source is a post, and its number the next.
-fn judge_post(b: &[u8], station: u64, time: u64, kind: u64, value: u64) -> PostJudged
+fn judge_post(b: &[u8], station: u64, time: u64, kind: u64, value: u64) -> Result<NewPost, Refusal>
     ensures { JudgesPost station time kind value b.now result }
 {
     let n = engine_promises::stations(b);
     let c = engine_promises::capacity(b);
     if !engine_events::fits(b, n, c) {
-        return PostJudged::Refused(Refusal::Space);
+        return Err(Refusal::Space);
     }
     if n as u64 <= station {
-        return PostJudged::Refused(Refusal::Station);
+        return Err(Refusal::Station);
     }
-    let Meant::Means(m) = line::matter_of(n, kind, value) else {
-        return PostJudged::Refused(Refusal::Matter);
-    };
+    let matter = line::matter_of(n, kind, value)?;
     if HORIZON < time {
-        return PostJudged::Refused(Refusal::Late);
+        return Err(Refusal::Late);
     }
     if time < engine_rows::header(b, engine_rows::COMMIT_TIME) {
-        return PostJudged::Refused(Refusal::Early);
+        return Err(Refusal::Early);
     }
     let number = engine_rows::header(b, engine_rows::NEXT_POST);
     if 4294967295 < number {
-        return PostJudged::Refused(Refusal::Count);
+        return Err(Refusal::Count);
     }
     if full(b, n, c) {
-        return PostJudged::Refused(Refusal::Full);
+        return Err(Refusal::Full);
     }
     let event = Event {
         time,
         target: station as u16,
         source: line::POSTED,
         number: number as u32,
-        matter: m,
+        matter,
     };
-    PostJudged::Accepts { n, c, event }
+    Ok(NewPost { n, c, event })
 }
 
 // The event of an accepted post is added, and the next post has the next number. Answers how many events are undone.
@@ -80,17 +79,19 @@ fn add_post(b: &mut [u8], n: u16, c: u16, e: Event) -> u64
 }
 
 // An unrun event is added.
-pub fn post(b: &mut [u8], station: u64, time: u64, kind: u64, value: u64) -> PostAnswer
+pub fn post(
+    b: &mut [u8],
+    station: u64,
+    time: u64,
+    kind: u64,
+    value: u64,
+) -> Result<PostAnswer, Refusal>
     ensures { Answered (Post station time kind value) (post_said result) b.old b.new }
 {
-    match judge_post(b, station, time, kind, value) {
-        PostJudged::Refused(e) => PostAnswer::Refused(e),
-        PostJudged::Accepts { n, c, event } => {
-            let undone = add_post(b, n, c, event);
-            let number = event.number as u64;
-            PostAnswer::Done { number, undone }
-        }
-    }
+    let NewPost { n, c, event } = judge_post(b, station, time, kind, value)?;
+    let undone = add_post(b, n, c, event);
+    let number = event.number as u64;
+    Ok(PostAnswer { number, undone })
 }
 
 // ---- retract
@@ -109,52 +110,44 @@ fn is_post(b: &[u8], n: u16, i: u16, number: u64) -> bool
     false
 }
 
-// The node of the held post with that number; 0 where there is none.
-fn find_post(b: &[u8], n: u16, c: u16, number: u64) -> u16
+// The node of the held post with that number.
+fn find_post(b: &[u8], n: u16, c: u16, number: u64) -> Option<u16>
     requires { (n ≤ 256) × (c ≤ 4096) }
     ensures { FindsPost n c number b.now result }
 {
-    let mut i: u16 = 0;
-    while i < c {
+    for i in 0..c {
         if is_post(b, n, i, number) {
-            return engine_index::node_of(n, i);
+            return Some(engine_index::node_of(n, i));
         }
-        i += 1;
     }
-    0
+    None
 }
 
-// What judging a retract finds: the node of the post, with the line's numbers of stations and slots, or the refusal.
+// What judging a retract finds: the node of the post, with the line's numbers of stations and slots.
 #[derive(Clone, Copy)]
-enum RetractJudged {
-    Accepts { n: u16, c: u16, node: u16 },
-    Refused(Refusal),
+struct HeldPost {
+    n: u16,
+    c: u16,
+    node: u16,
 }
 
 // The retract is judged.
-fn judge_retract(b: &[u8], number: u64) -> RetractJudged
+fn judge_retract(b: &[u8], number: u64) -> Result<HeldPost, Refusal>
     ensures { JudgesRetract number b.now result }
 {
     let n = engine_promises::stations(b);
     let c = engine_promises::capacity(b);
     if !engine_events::fits(b, n, c) {
-        return RetractJudged::Refused(Refusal::Space);
+        return Err(Refusal::Space);
     }
-    let node = find_post(b, n, c, number);
-    if node == 0 {
-        return RetractJudged::Refused(Refusal::Post);
-    }
-    RetractJudged::Accepts { n, c, node }
+    let node = find_post(b, n, c, number).ok_or(Refusal::Post)?;
+    Ok(HeldPost { n, c, node })
 }
 
 // The held post with that number is removed.
-pub fn retract(b: &mut [u8], number: u64) -> RetractAnswer
+pub fn retract(b: &mut [u8], number: u64) -> Result<u64, Refusal>
     ensures { Answered (Retract number) (retract_said result) b.old b.new }
 {
-    match judge_retract(b, number) {
-        RetractJudged::Refused(e) => RetractAnswer::Refused(e),
-        RetractJudged::Accepts { n, c, node } => RetractAnswer::Done {
-            undone: engine_rollback::remove(b, n, c, node),
-        },
-    }
+    let HeldPost { n, c, node } = judge_retract(b, number)?;
+    Ok(engine_rollback::remove(b, n, c, node))
 }

@@ -1,5 +1,5 @@
 -- What each call promises, on any bytes and on those that stand for an engine.
-use Rattle.std.specs.Prelude.{◌≡◌, true, List, [], ◌∷◌, ◌++◌, ℕ, length}
+use Rattle.std.specs.Prelude.{◌≡◌, true, List, [], ◌∷◌, ◌++◌, ℕ, length, Result, Ok, Err}
 use Rattle.refusal.specs.declared.Refusal.{Refusal}
 use Rattle.refusal.specs.declared.Refusal.TheVariants.{Arity, Width, Space, Idle}
 use Rattle.refusal.specs.Numbers.{stations_of}
@@ -11,10 +11,7 @@ use Rattle.rules.specs.Engine.{chosen, Engine, opened, Call, Answer, Refused}
 use Rattle.rules.specs.Calls.{Answers}
 use Rattle.plan_format.specs.Plan.{count}
 use Rattle.plan_format.specs.Reading.{plan_cases}
-use Rattle.engine_answers.specs.declared.OpenAnswer.{OpenAnswer}
-use Rattle.engine_answers.specs.declared.OpenAnswer.TheVariants.{Done, Refused as Unopened}
 use Rattle.engine_answers.specs.declared.NextAnswer.{NextAnswer}
-use Rattle.engine_answers.specs.declared.NextAnswer.TheVariants as N
 use Rattle.plan_format.specs.Line.{line_of}
 use Rattle.engine_promises.specs.Represents.{Represents}
 use Rattle.engine_promises.specs.Answers.{open_says, open_station}
@@ -30,12 +27,12 @@ abbrev pub open_cases : List ℕ → ℕ → ℕ → ℕ → ℕ → List Case
 open_cases plan arity width capacity bytes = plan_cases plan ++ choice_cases (count plan) arity width capacity bytes
 
 -- of the plan's bytes, the buffer xs at entry, the answer r and the buffer ys at exit. "An opening doesn't depend on what its buffer held before"
-pub record Opens (plan : List ℕ) (arity width capacity : ℕ) (xs : List ℕ) (r : OpenAnswer) (ys : List ℕ) : Type 0 where
-  pub answer : r ≡ first_of Unopened (open_cases plan arity width capacity (length xs)) Done
+pub record Opens (plan : List ℕ) (arity width capacity : ℕ) (xs : List ℕ) (r : Result Unit Refusal) (ys : List ℕ) : Type 0 where
+  pub answer : r ≡ first_of Err (open_cases plan arity width capacity (length xs)) (Ok tt)
   pub number : open_says r ≡ judged (checks_of (open_cases plan arity width capacity (length xs)))
   pub station : open_station r ≡ first_of stations_of (open_cases plan arity width capacity (length xs)) []
-  pub refusal : (e : Refusal) → r ≡ Unopened e → ys ≡ xs
-  pub opens : r ≡ Done → Represents (line_of plan) (opened (line_of plan) (chosen arity width capacity)) ys
+  pub refusal : (e : Refusal) → r ≡ Err e → ys ≡ xs
+  pub opens : r ≡ Ok tt → Represents (line_of plan) (opened (line_of plan) (chosen arity width capacity)) ys
 
 -- ---- the calls after it
 
@@ -58,9 +55,9 @@ pub record Commits (asked : List ℕ → Call) (said : List ℕ → Answer) (xs 
 -- ---- the least unrun time, which changes nothing
 
 -- a station of least time, with that time; 14 where no event is unrun
-abbrev pub NextIs : List Held → NextAnswer → Type 0
-NextIs h (N.At station time) = (l : Lowest h station) × (l.time ≡ time)
-NextIs h (N.Refused e) = (e ≡ Idle) × (none_unrun h ≡ true)
+abbrev pub NextIs : List Held → Result NextAnswer Refusal → Type 0
+NextIs h (Ok a) = (l : Lowest h a.station) × (l.time ≡ a.time)
+NextIs h (Err e) = (e ≡ Idle) × (none_unrun h ≡ true)
 
-pub record TellsNext (xs : List ℕ) (r : NextAnswer) : Type 0 where
+pub record TellsNext (xs : List ℕ) (r : Result NextAnswer Refusal) : Type 0 where
   pub told : (p : Plan) (e : Engine) → Represents p e xs → NextIs e.queue.held r

@@ -1,6 +1,8 @@
 -- What the calls' private steps ensure; no promise to a caller cites these.
-use Rattle.std.specs.Prelude.{◌≡◌, Bool, cond, List, ℕ, suc, ◌+◌, ◌≤◌, ltb, leb, length}
-use Rattle.refusal.specs.Tests.{Verdict, judged}
+use Rattle.std.specs.Prelude.{◌≡◌, Bool, cond, List, ℕ, suc, ◌+◌, ◌≤◌, ltb, leb, length, Result, Ok, Err}
+use Rattle.refusal.specs.declared.Refusal.{Refusal}
+use Rattle.refusal.specs.Numbers.{number_of}
+use Rattle.refusal.specs.Tests.{Verdict, accepted, refused, judged}
 use Rattle.line.specs.Station.{Plan}
 use Rattle.rules.specs.Held.{Queue}
 use Rattle.rules.specs.Engine.{Setting, Engine, Call}
@@ -20,6 +22,16 @@ at_most m w = cond (ltb m w) (suc m) w
 -- a call is judged by reading alone: v is the number that refuses it, or accepted, at the engine that the bytes stand for
 pub record JudgesCall (call : Call) (v : Verdict) (xs : List ℕ) : Type 0 where
   pub says : (p : Plan) (e : Engine) → Represents p e xs → judged (checks p e call) ≡ v
+
+-- what a judging says, whatever it finds where it accepts
+abbrev pub verdict_of : {A : Type 0} → Result A Refusal → Verdict
+verdict_of (Ok found) = accepted
+verdict_of (Err r) = refused (number_of r)
+
+-- r is the judging of a call: its verdict, and what is found where it accepts is so
+pub record Judges {A : Type 0} (call : Call) (xs : List ℕ) (r : Result A Refusal) (IsSo : A → Type 0) : Type 0 where
+  pub number : JudgesCall call (verdict_of r) xs
+  pub found : (x : A) → r ≡ Ok x → IsSo x
 
 -- n and c are the line's numbers of stations and slots
 abbrev pub Numbered : ℕ → ℕ → List ℕ → Type 0

@@ -16,13 +16,13 @@ pub fn read_state(b: &[u8], at: u32) -> State
 {
     let from = at as usize;
     State {
-        draw: words::load32(b, from),
-        level: words::load32(b, from + 4),
-        heard: words::load32(b, from + 8),
-        lost: words::load32(b, from + 12),
-        sent: words::load32(b, from + 16),
-        last: words::load64(b, from + 20),
-        reached: words::load32(b, from + 28) != 0,
+        draw: words::load::<u32>(b, from),
+        level: words::load::<u32>(b, from + 4),
+        heard: words::load::<u32>(b, from + 8),
+        lost: words::load::<u32>(b, from + 12),
+        sent: words::load::<u32>(b, from + 16),
+        last: words::load::<u64>(b, from + 20),
+        reached: words::load::<u32>(b, from + 28) != 0,
     }
 }
 
@@ -30,13 +30,13 @@ pub fn write_state(b: &mut [u8], at: u32, s: State)
     ensures { b.new ≡ put_state at s b.old }
 {
     let from = at as usize;
-    words::store32(b, from, s.draw);
-    words::store32(b, from + 4, s.level);
-    words::store32(b, from + 8, s.heard);
-    words::store32(b, from + 12, s.lost);
-    words::store32(b, from + 16, s.sent);
-    words::store64(b, from + 20, s.last);
-    words::store32(b, from + 28, s.reached as u32);
+    words::store::<u32>(b, from, s.draw);
+    words::store::<u32>(b, from + 4, s.level);
+    words::store::<u32>(b, from + 8, s.heard);
+    words::store::<u32>(b, from + 12, s.lost);
+    words::store::<u32>(b, from + 16, s.sent);
+    words::store::<u64>(b, from + 20, s.last);
+    words::store::<u32>(b, from + 28, s.reached as u32);
 }
 
 // A station's numbers of the plan.
@@ -45,13 +45,13 @@ pub fn read_config(b: &[u8], at: u32) -> Config
 {
     let from = at as usize;
     Config {
-        parent: words::load16(b, from),
-        calm: words::load32(b, from + 4),
-        spring: words::load32(b, from + 8),
-        threshold: words::load32(b, from + 12),
-        hop: words::load32(b, from + 16),
-        noise: words::load32(b, from + 20),
-        seed: words::load32(b, from + 24),
+        parent: words::load::<u16>(b, from),
+        calm: words::load::<u32>(b, from + 4),
+        spring: words::load::<u32>(b, from + 8),
+        threshold: words::load::<u32>(b, from + 12),
+        hop: words::load::<u32>(b, from + 16),
+        noise: words::load::<u32>(b, from + 20),
+        seed: words::load::<u32>(b, from + 24),
     }
 }
 
@@ -59,11 +59,11 @@ pub fn write_config(b: &mut [u8], at: u32, c: Config)
     ensures { b.new ≡ put_config at c b.old }
 {
     let from = at as usize;
-    words::store16(b, from, c.parent);
-    words::store32(b, from + 4, c.calm);
-    words::store32(b, from + 8, c.spring);
-    words::store32(b, from + 12, c.threshold);
-    words::store32(b, from + 16, c.hop);
-    words::store32(b, from + 20, c.noise);
-    words::store32(b, from + 24, c.seed);
+    words::store::<u16>(b, from, c.parent);
+    words::store::<u32>(b, from + 4, c.calm);
+    words::store::<u32>(b, from + 8, c.spring);
+    words::store::<u32>(b, from + 12, c.threshold);
+    words::store::<u32>(b, from + 16, c.hop);
+    words::store::<u32>(b, from + 20, c.noise);
+    words::store::<u32>(b, from + 24, c.seed);
 }

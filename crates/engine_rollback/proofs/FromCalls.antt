@@ -82,9 +82,3 @@ module _ (n c : ℕ) (xs : List ℕ) where
   pub adds : {e : Event} {k node : ℕ} {ys zs : List ℕ} → UndoesFrom n c xs e.target e k ys → HoldsEvent n c ys e node zs → Adds n c xs e node k zs
   adds {e} U T p setting now q cells ws st M room fits inside early late N =
       added M e N room fits inside early late (U p setting now q cells ws st M) T
-
-  pub adds_out : {e : Event} {k node : ℕ} {zs : List ℕ} → n ≤ e.target → Adds n c xs e node k zs
-  adds_out l p setting now q cells ws st M room fits inside early late N = absurd (omega (arith, l, inside))
-
-  pub adds_else : {e : Event} {k node : ℕ} {zs : List ℕ} → 256 < n → Adds n c xs e node k zs
-  adds_else l p setting now q cells ws st M room fits inside early late N = absurd (omega (arith, M.holds.stores.stands.stations, l))

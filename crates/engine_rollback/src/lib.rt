@@ -137,10 +137,7 @@ pub fn add(b: &mut [u8], n: u16, c: u16, e: Event) -> Added
     ensures none { (n ≤ e.target) ⊎ (256 < n) → (result.node ≡ 0) × (result.undone ≡ 0) × (b.new ≡ b.old) }
 {
     let t = e.target;
-    if n <= t {
-        return Added { node: 0, undone: 0 };
-    }
-    if 256 < n {
+    if n <= t || 256 < n {
         return Added { node: 0, undone: 0 };
     }
     let undone = roll_back(b, n, c, t, e);

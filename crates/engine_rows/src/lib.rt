@@ -37,7 +37,7 @@ pub fn header(b: &[u8], i: u16) -> u64
     if 8 <= i {
         return 0;
     }
-    words::load64(b, 8 * i as usize)
+    words::load::<u64>(b, 8 * i as usize)
 }
 
 pub fn set_header(b: &mut [u8], i: u16, v: u64)
@@ -46,7 +46,7 @@ pub fn set_header(b: &mut [u8], i: u16, v: u64)
     if 8 <= i {
         return;
     }
-    words::store64(b, 8 * i as usize, v);
+    words::store::<u64>(b, 8 * i as usize, v);
 }
 
 // ---- rows
@@ -121,7 +121,7 @@ pub fn before(b: &[u8], n: u16, i: u16, e: Event) -> bool
 pub fn time(b: &[u8], n: u16, i: u16) -> u64
     ensures { result ≡ load_at 8 (slot_row n i) b.now }
 {
-    words::load64(b, slot_row(n, i) as usize)
+    words::load::<u64>(b, slot_row(n, i) as usize)
 }
 
 // The state from before the event.
@@ -158,7 +158,7 @@ pub fn number(b: &[u8], n: u16, i: u16, k: u16) -> u16
     if 4 <= k {
         return 0;
     }
-    words::load16(b, slot_row(n, i) as usize + 56 + 2 * k as usize)
+    words::load::<u16>(b, slot_row(n, i) as usize + 56 + 2 * k as usize)
 }
 
 pub fn set_number(b: &mut [u8], n: u16, i: u16, k: u16, v: u16)
@@ -167,5 +167,5 @@ pub fn set_number(b: &mut [u8], n: u16, i: u16, k: u16, v: u16)
     if 4 <= k {
         return;
     }
-    words::store16(b, slot_row(n, i) as usize + 56 + 2 * k as usize, v);
+    words::store::<u16>(b, slot_row(n, i) as usize + 56 + 2 * k as usize, v);
 }

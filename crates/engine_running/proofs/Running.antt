@@ -12,8 +12,7 @@ use Rattle.refusal.specs.Tests.{accepted, refused, judged}
 use Rattle.line.specs.declared.Config.{Config}
 use Rattle.line.specs.declared.Effect.{Effect}
 use Rattle.line.specs.declared.Event.{Event}
-use Rattle.line.specs.declared.Ran.{Ran}
-use Rattle.line.specs.declared.Ran.TheVariants.{Done, Over}
+use Rattle.std.specs.Prelude.{Option, Some, None}
 use Rattle.line.specs.declared.State.{State}
 use Rattle.line.specs.Answer.{counts_pass, counted, sends_of, said}
 use Rattle.line.specs.Station.{Plan, Outcome, update, run_at, run_event}
@@ -68,14 +67,14 @@ use Rattle.engine_running.proofs.Outcomes.{over_passes, within_is, outcome_of, s
 use Rattle.engine_running.proofs.SendsAdded.{Ready, Stage, send_more}
 
 -- what the call reads, where it finds a slot
-pub record Reads (n c s x : ℕ) (xs : List ℕ) (v : Event) (r : Ran) : Type 0 where
+pub record Reads (n c s x : ℕ) (xs : List ℕ) (v : Event) (r : Option Effect) : Type 0 where
   pub inside : s < n
   pub next : x ≡ first_unrun xs n c s
   pub above : free_ring n < x
   pub event : v ≡ event_at (slot_row n (slot_of n x)) xs
   pub outcome : said r ≡ counted (run_at (stored_config (station_row n s) xs) (state_at (station_row n s + 32) xs) v)
 
-pub reads_of : {n c s x i : ℕ} {xs : List ℕ} {v : Event} {r : Ran} {g : Config} {b : State} → s < n → x ≡ first_unrun xs n c s
+pub reads_of : {n c s x i : ℕ} {xs : List ℕ} {v : Event} {r : Option Effect} {g : Config} {b : State} → s < n → x ≡ first_unrun xs n c s
     → FindsSlot n c (length xs) x i → i < c → v ≡ event_at (slot_row n i) xs → g ≡ stored_config (station_row n s) xs → b ≡ state_at (station_row n s + 32) xs
     → said r ≡ counted (run_at g b v) → Reads n c s x xs v r
 reads_of {xs = xs} l i F h j k m o = record { inside = l; next = i; above = (F.sound h).0.above; event = slot_event F xs h j; outcome = rw (k, m) at o }
@@ -96,7 +95,7 @@ module _ {p : Plan} {e : Engine} {xs : List ℕ} (R : Represents p e xs) {s x : 
       go (inl w) = absurd (omega (arith, w.0))
       go (inr w) = w
 
-module _ {p : Plan} {e : Engine} {xs : List ℕ} (R : Represents p e xs) {s x : ℕ} {v : Event} {r : Ran}
+module _ {p : Plan} {e : Engine} {xs : List ℕ} (R : Represents p e xs) {s x : ℕ} {v : Event} {r : Option Effect}
     (G : Reads p.count e.setting.capacity s x xs v r)
     (W : Waits p.count s x xs e.queue R.cells) where
   abbrev w : Event
@@ -121,10 +120,10 @@ module _ {p : Plan} {e : Engine} {xs : List ℕ} (R : Represents p e xs) {s x : 
       ∙ ap (λ y. counted (run_at (p.config s) (st s) y)) v_is
       ∙ ap (λ t. counted (run_at (p.config t) (st t) w)) (sym W.target_is)
 
-  pub over_so : r ≡ Over → judged (checks p e (RunStation s)) ≡ refused 16
+  pub over_so : r ≡ None → judged (checks p e (RunStation s)) ≡ refused 16
   over_so z = run_16 p e s G.inside w W.least (over_passes o (ap said (sym z) ∙ outcome_is))
 
-  module _ (f : Effect) (t : r ≡ Done f) where
+  module _ (f : Effect) (t : r ≡ Some f) where
     is_within : (counts_pass o.after ≡ false) × (o ≡ outcome_of f)
     is_within = within_is o (outcome_of f) (ap said (sym t) ∙ outcome_is)
 

@@ -8,8 +8,7 @@ use borrow.Author.Tests.{ne_eqb}
 use lib.ListN.{length}
 use Rattle.refusal.specs.Tests.{horizon}
 use Rattle.line.specs.declared.Event.{Event}
-use Rattle.line.specs.declared.Sending.{Sending}
-use Rattle.line.specs.declared.Sending.TheVariants.{Nothing, Sends}
+use Rattle.std.specs.Prelude.{Option, Some, None}
 use Rattle.line.specs.Answer.{sends_of}
 use Rattle.line.specs.Event.{before}
 use Rattle.line.specs.Station.{Plan, States}
@@ -196,12 +195,12 @@ module _ {p : Plan} {setting : Setting} {n c now : ℕ} {q u : Queue} {x : ℕ} 
   }
 
 -- a place for a send is added, empty or not
-pub send_more : {p : Plan} {setting : Setting} {n c now : ℕ} {q u : Queue} {x : ℕ} {e : Event} {xs : List ℕ} {k : ℕ} {ks : List ℕ} {es : List Event} (a : Sending) {rs : List Event}
+pub send_more : {p : Plan} {setting : Setting} {n c now : ℕ} {q u : Queue} {x : ℕ} {e : Event} {xs : List ℕ} {k : ℕ} {ks : List ℕ} {es : List Event} (a : Option Event) {rs : List Event}
     (node j : ℕ) {ys : List ℕ} → Stage p setting n c now q u x e xs k ks es (sends_of a ++ rs) → AddsSend n c xs a node j ys
     → Stage p setting n c now q u x e ys (k + j) (ks ++ nonzero node) (es ++ sends_of a) rs
-send_more {p} {setting} {n} {c} {now} {q} {u} {x} {e} {xs} {k} {ks} {es} Nothing {rs} node j {ys} s D =
+send_more {p} {setting} {n} {c} {now} {q} {u} {x} {e} {xs} {k} {ks} {es} None {rs} node j {ys} s D =
     let i : k + j ≡ k = omega (arith, D.1) in
     rw (D.2, D.0, i, append-nil ks, append-nil es) s
-send_more {p} {setting} {n} {c} {now} {q} {u} {x} {e} {xs} {k} {ks} {es} (Sends y) {rs} node j {ys} s D =
+send_more {p} {setting} {n} {c} {now} {q} {u} {x} {e} {xs} {k} {ks} {es} (Some y) {rs} node j {ys} s D =
     let l = added_above y s D in
     rw (ne_eqb node 0 (λ z. omega (arith, l, z))) (one_more y s D)

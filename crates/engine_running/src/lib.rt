@@ -17,18 +17,18 @@ ghost use Rattle.engine_events.specs.Promises.{AfterHeader};
 
 use engine_answers::RunAnswer;
 use engine_rollback::Added;
-use line::{Effect, Ran, Sending};
+use line::{Effect, Event};
 use refusal::Refusal;
 
 // ---- sends
 
 // How many events a place for a send has.
-fn sends(s: Sending) -> u16
+fn sends(s: Option<Event>) -> u16
     ensures { result ≡ length (sends_of s) }
 {
     match s {
-        Sending::Nothing => 0,
-        Sending::Sends(_) => 1,
+        None => 0,
+        Some(_) => 1,
     }
 }
 
@@ -47,55 +47,51 @@ fn free_places(b: &[u8], n: u16, c: u16) -> u16
 }
 
 // A send is added, where there is one; its node is 0 where there is none.
-fn add_send(b: &mut [u8], n: u16, c: u16, s: Sending) -> Added
+fn add_send(b: &mut [u8], n: u16, c: u16, s: Option<Event>) -> Added
     ensures frame { AfterHeader b.old b.new }
     ensures few { result.undone ≤ c }
     ensures adds { AddsSend n c b.old s result.node result.undone b.new }
 {
     match s {
-        Sending::Nothing => Added { node: 0, undone: 0 },
-        Sending::Sends(e) => engine_rollback::add(b, n, c, e),
+        None => Added { node: 0, undone: 0 },
+        Some(e) => engine_rollback::add(b, n, c, e),
     }
 }
 
 // ---- a station's run
 
-// What judging a run finds: the node of the station's first unrun event and what running it does, or the refusal.
+// What judging a run finds: the node of the station's first unrun event and what running it does.
 #[derive(Clone, Copy)]
-enum RunJudged {
-    Accepts { node: u16, effect: Effect },
-    Refused(Refusal),
+struct NextRun {
+    node: u16,
+    effect: Effect,
 }
 
 // The run of station s is judged.
-fn judge_run(b: &[u8], n: u16, c: u16, s: u16) -> RunJudged
+fn judge_run(b: &[u8], n: u16, c: u16, s: u16) -> Result<NextRun, Refusal>
     ensures { JudgesRun n c s b.now result }
 {
     if !engine_events::fits(b, n, c) {
-        return RunJudged::Refused(Refusal::Space);
+        return Err(Refusal::Space);
     }
     if n <= s {
-        return RunJudged::Refused(Refusal::Station);
+        return Err(Refusal::Station);
     }
     let x = engine_ends::first_unrun(b, n, c, s);
     let i = engine_index::slot_in(b, n, c, x);
     if c <= i {
-        return RunJudged::Refused(Refusal::Idle);
+        return Err(Refusal::Idle);
     }
     let e = engine_rows::event(b, n, i);
-    let Ran::Done(effect) = line_running::run_event(
-        engine_rows::config(b, n, s),
-        engine_rows::state(b, n, s),
-        e,
-    ) else {
-        return RunJudged::Refused(Refusal::Count);
-    };
+    let config = engine_rows::config(b, n, s);
+    let state = engine_rows::state(b, n, s);
+    let effect = line_running::run_event(config, state, e).ok_or(Refusal::Count)?;
     let one = effect.first;
     let two = effect.second;
     if free_places(b, n, c) < sends(one) + sends(two) {
-        return RunJudged::Refused(Refusal::Full);
+        return Err(Refusal::Full);
     }
-    RunJudged::Accepts { node: x, effect }
+    Ok(NextRun { node: x, effect })
 }
 
 // The event of that node is run, and its sends are added in order. Answers how many events are undone.
@@ -112,27 +108,23 @@ fn run_node(b: &mut [u8], n: u16, c: u16, x: u16, effect: Effect) -> u64
 }
 
 // The first unrun event of station s is run.
-pub fn run_at(b: &mut [u8], n: u16, c: u16, s: u16) -> RunAnswer
+pub fn run_at(b: &mut [u8], n: u16, c: u16, s: u16) -> Result<RunAnswer, Refusal>
     ensures { RunsAt n c s result b.old b.new }
 {
-    match judge_run(b, n, c, s) {
-        RunJudged::Refused(e) => RunAnswer::Refused(e),
-        RunJudged::Accepts { node, effect } => {
-            let undone = run_node(b, n, c, node, effect);
-            let station = s as u64;
-            RunAnswer::Done { station, undone }
-        }
-    }
+    let NextRun { node, effect } = judge_run(b, n, c, s)?;
+    let undone = run_node(b, n, c, node, effect);
+    let station = s as u64;
+    Ok(RunAnswer { station, undone })
 }
 
 // ---- the call
 
 // The station's least unrun event is run.
-pub fn run_station(b: &mut [u8], station: u64) -> RunAnswer
+pub fn run_station(b: &mut [u8], station: u64) -> Result<RunAnswer, Refusal>
     ensures { Answered (RunStation station) (run_said result) b.old b.new }
 {
     if 65535 < station {
-        return RunAnswer::Refused(Refusal::Station);
+        return Err(Refusal::Station);
     }
     let n = engine_promises::stations(b);
     let c = engine_promises::capacity(b);

@@ -1,14 +1,12 @@
 -- What running to a time promises: which calls were made, and why it ended.
-use Rattle.std.specs.Prelude.{◌≡◌, ◌≢◌, ◌⊎◌, List, [], ◌∷◌, ◌++◌, ℕ, ◌≤◌, length}
+use Rattle.std.specs.Prelude.{◌≡◌, ◌≢◌, ◌⊎◌, List, [], ◌∷◌, ◌++◌, ℕ, ◌≤◌, length, Result, Ok, Err}
 use Rattle.refusal.specs.declared.Refusal.{Refusal}
 use Rattle.refusal.specs.Numbers.{number_of}
 use Rattle.rules.specs.Engine.{RunLowest, Commit, Refused, Committed}
 use Rattle.rules.specs.Demand.{Made, last_commit}
 use Rattle.engine_answers.specs.declared.LowestAnswer.{LowestAnswer}
-use Rattle.engine_answers.specs.declared.CommitAnswer.{CommitAnswer}
-use Rattle.engine_answers.specs.declared.NextAnswer.TheVariants as N
-use Rattle.engine_answers.specs.declared.UntilAnswer.{UntilAnswer}
-use Rattle.engine_answers.specs.declared.UntilAnswer.TheVariants as U
+use Rattle.engine_answers.specs.declared.UntilError.{UntilError}
+use Rattle.engine_answers.specs.declared.UntilError.TheVariants as U
 use Rattle.engine_promises.specs.Answers.{lowest_said, commit_said}
 use Rattle.engine_promises.specs.Promises.{Answered, Commits, TellsNext}
 use Rattle.engine.specs.Session.{made}
@@ -17,9 +15,9 @@ use Rattle.engine.specs.Session.{made}
 -- ensures
 pub data Works : List ℕ → List ℕ → List Made → List ℕ → List ℕ → Type 0 where
   none : {xs os : List ℕ} → Works xs os [] xs os
-  run : {xs ys zs os ps : List ℕ} {ms : List Made} (r : LowestAnswer) → Answered RunLowest (lowest_said r) xs ys → Works ys os ms zs ps
+  run : {xs ys zs os ps : List ℕ} {ms : List Made} (r : Result LowestAnswer Refusal) → Answered RunLowest (lowest_said r) xs ys → Works ys os ms zs ps
       → Works xs os (made RunLowest (lowest_said r) ∷ ms) zs ps
-  commit : {xs ys zs os ns ps : List ℕ} {ms : List Made} (c : ℕ) (r : CommitAnswer) → Commits (Commit c) (commit_said r) xs ys os ns → Works ys ns ms zs ps
+  commit : {xs ys zs os ns ps : List ℕ} {ms : List Made} (c : ℕ) (r : Result ℕ Refusal) → Commits (Commit c) (commit_said r) xs ys os ns → Works ys ns ms zs ps
       → Works xs os (made (Commit c os) (commit_said r ns) ∷ ms) zs ps
 
 -- the last accepted commit of the calls is at c
@@ -43,16 +41,16 @@ pub record EndsBusy (t : ℕ) (xs os : List ℕ) (ms : List Made) : Type 0 where
   pub output : List ℕ
   pub works : Works xs os (before ++ (made RunLowest (Refused 17) ∷ [])) full output
   pub station : ℕ
-  pub least : TellsNext full (N.At station t)
+  pub least : TellsNext full (Ok (record { station = station; time = t }))
   pub left : List ℕ
   pub ends : ms ≡ before ++ (made RunLowest (Refused 17) ∷ made (Commit t output) (Committed 0 left) ∷ [])
 
 -- of the time, the turns, the buffer xs and the output os at entry, the answer r, and both at exit
-pub record RunsUntil (time turns : ℕ) (xs os : List ℕ) (r : UntilAnswer) (ys ps : List ℕ) : Type 0 where
+pub record RunsUntil (time turns : ℕ) (xs os : List ℕ) (r : Result Unit UntilError) (ys ps : List ℕ) : Type 0 where
   pub calls : List Made
   pub works : Works xs os calls ys ps
-  pub done : r ≡ U.Done → Reaches time calls
-  pub refused : (e : Refusal) → r ≡ U.Refused e → Met (number_of e) calls × Ending (number_of e)
-  pub busy : (t : ℕ) → r ≡ U.Busy t → EndsBusy t xs os calls
+  pub done : r ≡ Ok tt → Reaches time calls
+  pub refused : (e : Refusal) → r ≡ Err (U.Refused e) → Met (number_of e) calls × Ending (number_of e)
+  pub busy : (t : ℕ) → r ≡ Err (U.Busy t) → EndsBusy t xs os calls
   -- each turn made a call
-  pub unfinished : r ≡ U.Unfinished → turns ≤ length calls
+  pub unfinished : r ≡ Err U.Unfinished → turns ≤ length calls

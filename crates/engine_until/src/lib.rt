@@ -8,115 +8,79 @@
 ghost use Rattle.engine_until.specs.Promises.{RunsUntil};
 ghost use Rattle.engine_until.specs.Steps.{Goes, Fronts, Stretches, Settles, Turns};
 
-use engine_answers::{CommitAnswer, LowestAnswer, NextAnswer, UntilAnswer};
+pub use engine_answers::UntilError;
 use refusal::Refusal;
-
-// Whether there is more to do.
-#[derive(Clone, Copy)]
-enum Step {
-    On,
-    End(UntilAnswer),
-}
-
-// How a stretch of runs ended.
-#[derive(Clone, Copy)]
-enum Stretch {
-    Ran,
-    Refused(Refusal),
-}
 
 // The runs of a turn, at most.
 const RUNS: u16 = 256;
 
-// A refusal with 14, 15 or 17 ends nothing: a commit or more runs come after it.
-fn after_refusal(e: Refusal) -> Step
+// A refusal with 14, 15 or 17 ends nothing: a commit or more runs come after it. False: the time isn't reached.
+fn after_refusal(e: Refusal) -> Result<bool, UntilError>
     ensures { Goes e result }
 {
-    let n = refusal::number(e);
-    if n == 14 || n == 15 || n == 17 {
-        return Step::On;
+    match e {
+        Refusal::Idle | Refusal::Unrun | Refusal::Full => Ok(false),
+        _ => Err(UntilError::Refused(e)),
     }
-    Step::End(UntilAnswer::Refused(e))
 }
 
 // The least unrun time, where it is before the time; else the time.
 fn front(b: &[u8], time: u64) -> u64
     ensures { Fronts time b.now result }
 {
-    let NextAnswer::At {
-        station: _,
-        time: t,
-    } = engine::next(b)
-    else {
+    let Ok(next) = engine::next(b) else {
         return time;
     };
-    if t < time {
-        return t;
+    if next.time < time {
+        return next.time;
     }
     time
 }
 
 // So many run lowest calls, or as many as are accepted and the refused one.
-fn run_some(b: &mut [u8], most: u16) -> Stretch
+fn run_some(b: &mut [u8], most: u16) -> Result<(), Refusal>
     ensures { Stretches b.old result b.new }
 {
-    let mut left = most;
-    while 0 < left {
-        match engine::run_lowest(b) {
-            LowestAnswer::Done {
-                station: _,
-                undone: _,
-                words: _,
-            } => {}
-            LowestAnswer::Refused(e) => return Stretch::Refused(e),
-        }
-        left -= 1;
+    for _ in 0..most {
+        engine::run_lowest(b)?;
     }
-    Stretch::Ran
+    Ok(())
 }
 
-// What a stretch, and the commit of so many events at c after it, say of the time.
-fn settle(s: Stretch, c: u64, count: u64, time: u64) -> Step
-    ensures { Settles s c count time result }
+// What a stretch, and the commit of so many events at c after it, say of the time: whether it is reached, or why it won't be.
+fn settle(ran: Result<(), Refusal>, c: u64, count: u64, time: u64) -> Result<bool, UntilError>
+    ensures { Settles ran c count time result }
 {
     if c == time {
-        return Step::End(UntilAnswer::Done);
+        return Ok(true);
     }
-    match s {
-        Stretch::Ran => Step::On,
-        Stretch::Refused(e) => {
-            let n = refusal::number(e);
-            if n == 17 && count == 0 {
-                return Step::End(UntilAnswer::Busy { time: c });
-            }
-            after_refusal(e)
-        }
+    match ran {
+        Ok(()) => Ok(false),
+        Err(Refusal::Full) if count == 0 => Err(UntilError::Busy { time: c }),
+        Err(e) => after_refusal(e),
     }
 }
 
-// A stretch of runs, and a commit of what has run.
-fn turn(b: &mut [u8], time: u64, out: &mut [u8]) -> Step
+// A stretch of runs, and a commit of what has run. Answers whether the time is reached.
+fn turn(b: &mut [u8], time: u64, out: &mut [u8]) -> Result<bool, UntilError>
     ensures { Turns time b.old out.old result b.new out.new }
 {
-    let s = run_some(b, RUNS);
+    let ran = run_some(b, RUNS);
     let c = front(b, time);
     match engine::commit(b, c, out) {
-        CommitAnswer::Done { count } => settle(s, c, count, time),
-        CommitAnswer::Refused(e) => after_refusal(e),
+        Ok(count) => settle(ran, c, count, time),
+        Err(e) => after_refusal(e),
     }
 }
 
 // All events before the time are run and committed, in at most so many turns of 256 runs. The output has room for a commit's log, which is left there.
-pub fn run_until(b: &mut [u8], time: u64, turns: u64, out: &mut [u8]) -> UntilAnswer
+pub fn run_until(b: &mut [u8], time: u64, turns: u64, out: &mut [u8]) -> Result<(), UntilError>
     ensures { RunsUntil time turns b.old out.old result b.new out.new }
 {
-    let mut left = turns;
-    while 0 < left {
-        match turn(b, time, out) {
-            Step::On => {}
-            Step::End(u) => return u,
+    for _ in 0..turns {
+        if turn(b, time, out)? {
+            return Ok(());
         }
-        left -= 1;
     }
-    UntilAnswer::Unfinished
+    Err(UntilError::Unfinished)
 }

@@ -2,11 +2,11 @@
 use mathlib.Core.Path.{◌≡◌, refl, sym, ◌∙◌, subst}
 use mathlib.Core.List.{List, ◌++◌}
 use Prim.Native.Nat.{ℕ}
+use Rattle.std.specs.Prelude.{Ok}
 use Rattle.line.specs.declared.Event.{Event}
 use Rattle.rules.specs.Machine.{start, Runs}
 use Rattle.rules.specs.Demand.{Made, fed, last_commit}
 use Rattle.plan_format.specs.Line.{line_of}
-use Rattle.engine_answers.specs.declared.OpenAnswer.TheVariants as O
 use Rattle.engine.proofs.Session.{whole}
 use Rattle.engine_until.proofs.Joins.{last_join}
 use Rattle.figure.specs.Figure.{Figure}
@@ -16,7 +16,7 @@ pub figure : Figure
 figure plan arity width capacity time turns before xs ys zs os ps ms o c r =
     let line = line_of plan in
     let calls : List Made = ms ++ r.calls in
-    let w = (whole plan arity width capacity before O.Done xs o).whole refl zs calls (chain_join c (works_chain r.works)) in
+    let w = (whole plan arity width capacity before (Ok tt) xs o).whole refl zs calls (chain_join c (works_chain r.works)) in
     let k = w.demand.machine in
     let t : last_commit 0 calls ≡ time = last_join 0 ms r.calls ∙ r.done refl (last_commit 0 ms) in
     let f : fed (line_of plan) calls ≡ fed (line_of plan) ms = works_feed_nothing (line_of plan) ms r.calls r.works in

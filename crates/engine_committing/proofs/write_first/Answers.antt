@@ -1,7 +1,6 @@
--- The first event of the log is written and leaves, so many times; the measure is how many are left. The loop ends where the log has no more events
+-- The first event of the log is written and leaves, so many times. The loop ends where the log has no more events
 -- (`writing-stops`), or after that many (`writing-ends`).
 use mathlib.Core.Path.{refl, ap, ◌∙◌}
-use Prim.Native.Nat.{◌-◌}
 use native.Mathlib.Omega.{arith}
 use Rattle.engine_index.proofs.Places.Range.{logged_at}
 use Rattle.engine_index.proofs.Places.FoundSlot.{finds}
@@ -13,15 +12,15 @@ use Rattle.engine_committing.proofs.Writing.{writing_start, writing_on, writing_
 use Rattle.engine_committing.proofs.write_first.Goals as goal
 
 pub loop-k-init : goal.loop-k-init
-loop-k-init c = (omega arith, refl, after_header_same _, writing_start _ _ _ _ _)
+loop-k-init c = (refl, after_header_same _, writing_start _ _ _ _ _)
 
 pub returns-then-c-i : goal.returns-then-c-i
 returns-then-c-i c =
     let a = c.args in
     let inv = c.loop-k.invariant in
     record {
-      frame = inv.2;
-      writes = writing_stops a.n a.c a.b.now a.count a.out.now inv.3 c.loop-k-test.true (logged_at _ _ _ _ c.first_logged-x.ensures)
+      frame = inv.1;
+      writes = writing_stops a.n a.c a.b.now a.count a.out.now inv.2 c.loop-k-test.true (logged_at _ _ _ _ c.first_logged-x.ensures)
           (no_slot (finds c.slot_in-i.ensures) c.if-c-i.true);
     }
 
@@ -30,10 +29,9 @@ loop-k-preserved c =
     let inv = c.loop-k.invariant in
     let more = c.loop-k-test.true in
     let gone = c.release.ensures in (
-      omega (arith, more),
-      ap length c.write.ensures ∙ length_event _ _ _ ∙ inv.1,
-      after_header_on inv.2 gone.frame,
-      writing_on _ _ _ _ _ inv.3 more (logged_at _ _ _ _ c.first_logged-x.ensures)
+      ap length c.write.ensures ∙ length_event _ _ _ ∙ inv.0,
+      after_header_on inv.1 gone.frame,
+      writing_on _ _ _ _ _ inv.2 more (logged_at _ _ _ _ c.first_logged-x.ensures)
           (slot_event (finds c.slot_in-i.ensures) _ c.if-c-i.false c.event-e.ensures) c.write.ensures gone.releases,
     )
 
@@ -42,8 +40,8 @@ returns c =
     let a = c.args in
     let inv = c.loop-k.invariant in
     record {
-      frame = inv.2;
-      writes = writing_ends a.n a.c a.b.now a.count a.out.now inv.3 (omega (arith, inv.0, c.loop-k-test.false));
+      frame = inv.1;
+      writes = writing_ends a.n a.c a.b.now a.count a.out.now inv.2 (omega (arith, c.loop-k.auto.k-end, c.loop-k-test.false));
     }
 
 pub overflow_cast-k : goal.overflow_cast-k
@@ -51,9 +49,3 @@ overflow_cast-k c = omega arith
 
 pub overflow_mul-k : goal.overflow_mul-k
 overflow_mul-k c = omega arith
-
-pub overflow_add-k : goal.overflow_add-k
-overflow_add-k c = omega arith
-
-pub loop-k-smaller : goal.loop-k-smaller
-loop-k-smaller c = omega arith

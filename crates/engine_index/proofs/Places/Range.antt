@@ -4,7 +4,7 @@ use mathlib.Core.Bool.{Bool, true, false, true≢false, ◌&&◌}
 use mathlib.Core.List.{List}
 use Prim.Native.Nat.{ℕ, ◌+◌, ◌*◌, ◌%◌, ◌≤◌, ◌<◌}
 use native.Mathlib.Omega.{arith}
-use borrow.Author.Tests.{le-leb, lt-leb, leb-true}
+use borrow.Author.Tests.{le-leb, leb-true}
 use lib.Dec.{leb}
 use Rattle.rings.specs.Table.{next_of}
 use Rattle.engine_index.specs.Layout.{run_ring, free_ring, node_of, nodes_of, links_at, log_at, in_range, next_logged}
@@ -12,12 +12,6 @@ use Rattle.engine_index.specs.Layout.{run_ring, free_ring, node_of, nodes_of, li
 module _ (n c : ℕ) where
   in_range_lem : n ≤ 256 → c ≤ 4096 → in_range n c ≡ true
   in_range_lem h k = rw (le-leb n 256 h, le-leb c 4096 k)
-
-  pub range_over : 256 < n → false ≡ in_range n c
-  range_over h = rw (lt-leb n 256 h)
-
-  pub range_rest : n ≤ 256 → leb c 4096 ≡ in_range n c
-  range_rest h = rw (le-leb n 256 h)
 
   pub range_true : {r : Bool} → r ≡ in_range n c → r ≡ true → (n ≤ 256) × (c ≤ 4096)
   range_true e h = go (leb n 256) (leb c 4096) refl refl (sym e ∙ h)

@@ -18,7 +18,8 @@ use Rattle.rules.proofs.Replay.Registered.{registered_at_lem, registered_first}
 use Rattle.rings.specs.Table.{Frame}
 use Rattle.engine_rows.specs.Layout.{slot_row}
 use Rattle.entry.proofs.EntryLaws.{event_time}
-use Rattle.calendar_answers.specs.declared.Answer.{Answer}
+use Rattle.std.specs.Prelude.{Result}
+use Rattle.refusal.specs.declared.Refusal.{Refusal}
 use Rattle.calendar_header.specs.Rules.{with_time, register_checks, registered_at as entered, unregister_checks, unregistered}
 use Rattle.calendar_header.specs.Bytes.{Sound, state_of}
 use Rattle.calendar_header.specs.Promises.{Obeys}
@@ -117,7 +118,7 @@ After n c s start xs zs =
 
 module _ (n c s : ℕ) {start x : ℕ} (xs zs : List ℕ) (b : s < n) (ls : start ≡ calendar_at n c) (long : start ≤ length xs)
     (size : length zs ≡ length (take (length xs - start) (drop start xs))) (next : x ≡ first_unrun xs n c s) where
-  pub tell_none : {r : Answer} → x ≡ 0 → Obeys (λ q. unregister_checks q s) (λ q. unregistered q s) (take (length xs - start) (drop start xs)) r zs → After n c s start xs zs
+  pub tell_none : {r : Result Unit Refusal} → x ≡ 0 → Obeys (λ q. unregister_checks q s) (λ q. unregistered q s) (take (length xs - start) (drop start xs)) r zs → After n c s start xs zs
   tell_none {r} e O = (
     put.1.1,
     λ p setting now q cells S U.
@@ -127,14 +128,14 @@ module _ (n c s : ℕ) {start x : ℕ} (xs zs : List ℕ) (b : s < n) (ls : star
         record {
           stores = stores_kept put.1.1 (inr (omega arith)) S;
           calendar =
-              told none b U (absent_time (registered q.held s) gone) (put_mid start (length xs - start) xs zs) put.1.0 (O.sound U.sound) (O.state U.sound done);
+              told none b U (absent_time (registered q.held s) gone) (put_mid start (length xs - start) xs zs) put.1.0 (O.sound U.sound) (rw done at (O.state U.sound));
         },
   )
     where
       put : (take (length xs - start) (drop start xs) ≡ part n c xs) × Put n c xs zs (put_mid start (length xs - start) xs zs)
       put = part_put n c xs zs ls long size
 
-  pub tell_time : {r : Answer} {i t : ℕ} → x ≢ 0 → i ≡ slot_of n x → t ≡ load_at 8 (slot_row n i) xs
+  pub tell_time : {r : Result Unit Refusal} {i t : ℕ} → x ≢ 0 → i ≡ slot_of n x → t ≡ load_at 8 (slot_row n i) xs
       → Obeys (λ q. register_checks q s t) (λ q. entered q s t) (take (length xs - start) (drop start xs)) r zs → After n c s start xs zs
   tell_time {r} {i} {t} d ei et O = (
     put.1.1,
@@ -149,7 +150,7 @@ module _ (n c s : ℕ) {start x : ℕ} (xs zs : List ℕ) (b : s < n) (ls : star
         record {
           stores = stores_kept put.1.1 (inr (omega arith)) S;
           calendar =
-              told (some t) b U (at_time (registered q.held s) t is) (put_mid start (length xs - start) xs zs) put.1.0 (O.sound U.sound) (O.state U.sound done);
+              told (some t) b U (at_time (registered q.held s) t is) (put_mid start (length xs - start) xs zs) put.1.0 (O.sound U.sound) (rw done at (O.state U.sound));
         },
   )
     where

@@ -12,7 +12,8 @@ use Rattle.rules.specs.Engine.{opened}
 use Rattle.rings.specs.Table.{Frame}
 use Rattle.engine_rows.specs.Layout.{slot_row}
 use Rattle.engine_rows.proofs.Rows.{config_in, state_in}
-use Rattle.calendar_answers.specs.declared.Answer.{Answer}
+use Rattle.std.specs.Prelude.{Result}
+use Rattle.refusal.specs.declared.Refusal.{Refusal}
 use Rattle.calendar_header.specs.Rules as calendar
 use Rattle.calendar_header.specs.Bytes.{state_of}
 use Rattle.calendar_header.specs.Promises.{OpensCalendar}
@@ -35,7 +36,7 @@ unfolding places
 length_places n zero = refl
 length_places n (suc c) = length-append (places n c) ((2 * n + 1 + c) ∷ []) ∙ (let h : length (places n c) ≡ c = length_places n c in omega arith)
 
-pub cleared : (n c arity width : ℕ) {start : ℕ} (xs zs ys : List ℕ) {r : Answer} → start ≡ calendar_at n c → start ≤ length xs → length zs ≡ length (take (length xs - start) (drop start xs)) → OpensCalendar n arity width (take (length xs - start) (drop start xs)) r zs
+pub cleared : (n c arity width : ℕ) {start : ℕ} (xs zs ys : List ℕ) {r : Result Unit Refusal} → start ≡ calendar_at n c → start ≤ length xs → length zs ≡ length (take (length xs - start) (drop start xs)) → OpensCalendar n arity width (take (length xs - start) (drop start xs)) r zs
     → Frame (slot_row n 0) (index_bytes n c) (put_mid start (length xs - start) xs zs) ys → index.Clears n c (put_mid start (length xs - start) xs zs) ys
     → AfterHeader xs ys × ClearsEvents n c arity width xs ys
 unfolding opened
@@ -47,7 +48,7 @@ cleared n c arity width {start} xs zs ys {r} ls within size O F K = (
       let long-part : calendar_bytes arity n ≤ length (part n c xs) = omega (arith, room, length-drop (calendar_at n c) xs) in
       let done = accepted_done r (O.answer ∙ open_accepted n arity width (length (part n c xs)) in_table a few w v long-part) in
       let left : part n c ys ≡ zs = part_kept n c F (omega arith) ∙ put.1.0 in
-      let state : state_of zs ≡ calendar.opened_calendar n arity width = O.state done in
+      let state : state_of zs ≡ calendar.opened_calendar n arity width = rw done at O.state in
       record {
         stores = record {
           count = count;
@@ -63,7 +64,7 @@ cleared n c arity width {start} xs zs ys {r} ls within size O F K = (
           kids = λ x e b m. absurd (Memᴰ.not-nil m);
         };
         calendar = record {
-          sound = rw left (O.sound done);
+          sound = rw left (rw done at O.sound);
           arity = rw (left, state);
           width = rw (left, state);
           floor = rw (left, state);

@@ -1,7 +1,6 @@
 -- The search: no slot passed so far holds the post; a slot that does ends it (`finds-at`), and so does the last slot (`finds-none`).
 use mathlib.Core.Path.{◌≡◌, sym, ◌∙◌}
 use mathlib.Core.Bool.{false}
-use Prim.Native.Nat.{◌-◌}
 use native.Mathlib.Omega.{arith}
 use borrow.Author.Count.{below_more}
 use Rattle.engine_index.specs.Layout.{node_of}
@@ -17,20 +16,8 @@ returns-then-is_post c =
 
 pub loop-i-preserved : goal.loop-i-preserved
 loop-i-preserved c =
-    let a = c.args in (
-      omega arith,
-      below_more (λ k. is_post_at a.b.now a.n k a.number ≡ false) c.loop-i.i c.loop-i.invariant.1
-          (sym c.is_post.ensures ∙ c.if-is_post.false),
-    )
+    let a = c.args in
+    below_more (λ k. is_post_at a.b.now a.n k a.number ≡ false) c.loop-i.i c.loop-i.invariant (sym c.is_post.ensures ∙ c.if-is_post.false)
 
 pub returns : goal.returns
-returns c = finds_none _ _ _ _ (λ k h. c.loop-i.invariant.1 k (omega arith))
-
-pub loop-i-init : goal.loop-i-init
-loop-i-init c = (omega arith, λ k h. absurd (omega arith))
-
-pub overflow_add-i : goal.overflow_add-i
-overflow_add-i c = omega arith
-
-pub loop-i-smaller : goal.loop-i-smaller
-loop-i-smaller c = omega arith
+returns c = finds_none _ _ _ _ (λ k h. c.loop-i.invariant k (omega arith))

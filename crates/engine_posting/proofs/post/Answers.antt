@@ -1,9 +1,13 @@
--- A post that is judged as refused is refused (`post-refusal`); else its event is added (`post-done`).
-use Rattle.engine_posting.proofs.Posting.{post_refusal, post_done}
+-- A refused post changes nothing; else its event is added (`post-done`).
+use Rattle.std.proofs.lemmas.Result.{err_from_is_err_and}
+use Rattle.engine_promises.proofs.Refused.{refused_call}
+use Rattle.engine_posting.proofs.Posting.{post_done}
 use Rattle.engine_posting.proofs.post.Goals as goal
 
-pub returns-in-Refused : goal.returns-in-Refused
-returns-in-Refused c = post_refusal c.judge_post.ensures c.in-Refused.is
+pub returns-in_err-n : goal.returns-in_err-n
+returns-in_err-n c =
+    let p = err_from_is_err_and c.from_residual.result c.from_residual.ensures.1 in
+    rw (p.1, p.2) (refused_call _ c.in_err-n.ensures)
 
-pub returns-in-Accepts : goal.returns-in-Accepts
-returns-in-Accepts c = post_done c.judge_post.ensures c.in-Accepts.is c.add_post-undone.ensures
+pub returns : goal.returns
+returns c = post_done c.in_ok-n.ensures c.add_post-undone.ensures

@@ -6,11 +6,11 @@ pub returns : goal.returns
 unfolding stored_config
 returns c =
     λ i. record {
-      parent = c.load16.ensures i;
-      calm = c.load32.ensures i;
-      spring = c.load32-2.ensures i;
-      threshold = c.load32-3.ensures i;
-      hop = c.load32-4.ensures i;
-      noise = c.load32-5.ensures i;
-      seed = c.load32-6.ensures i;
+      parent = c.load.ensures i;
+      calm = c.load-2.ensures i;
+      spring = c.load-3.ensures i;
+      threshold = c.load-4.ensures i;
+      hop = c.load-5.ensures i;
+      noise = c.load-6.ensures i;
+      seed = c.load-7.ensures i;
     }

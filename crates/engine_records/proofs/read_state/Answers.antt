@@ -8,11 +8,11 @@ pub returns : goal.returns
 unfolding state_at
 returns c =
     λ i. record {
-      draw = c.load32.ensures i;
-      level = c.load32-2.ensures i;
-      heard = c.load32-3.ensures i;
-      lost = c.load32-4.ensures i;
-      sent = c.load32-5.ensures i;
-      last = c.load64.ensures i;
-      reached = not (eqb (c.load32-6.ensures i) 0);
+      draw = c.load.ensures i;
+      level = c.load-2.ensures i;
+      heard = c.load-3.ensures i;
+      lost = c.load-4.ensures i;
+      sent = c.load-5.ensures i;
+      last = c.load-6.ensures i;
+      reached = not (eqb (c.load-7.ensures i) 0);
     }

@@ -7,8 +7,8 @@ use Rattle.engine_records.proofs.write_config.Goals as goal
 pub returns : goal.returns
 unfolding put_config
 returns c =
-    c.store32-6.ensures
-    ∙ ap (store_at 4 _ _) (c.store32-5.ensures
-    ∙ ap (store_at 4 _ _) (c.store32-4.ensures
-    ∙ ap (store_at 4 _ _) (c.store32-3.ensures
-    ∙ ap (store_at 4 _ _) (c.store32-2.ensures ∙ ap (store_at 4 _ _) (c.store32.ensures ∙ ap (store_at 4 _ _) c.store16.ensures)))))
+    c.store-7.ensures
+    ∙ ap (store_at 4 _ _) (c.store-6.ensures
+    ∙ ap (store_at 4 _ _) (c.store-5.ensures
+    ∙ ap (store_at 4 _ _) (c.store-4.ensures
+    ∙ ap (store_at 4 _ _) (c.store-3.ensures ∙ ap (store_at 4 _ _) (c.store-2.ensures ∙ ap (store_at 4 _ _) c.store.ensures)))))

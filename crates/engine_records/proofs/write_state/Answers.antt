@@ -16,8 +16,8 @@ flag_stored at b xs h = rw (← cast_flag b) h
 pub returns : goal.returns
 unfolding put_state
 returns c =
-    flag_stored _ c.args.s.reached _ c.store32-6.ensures
-    ∙ ap (store_at 4 _ _) (c.store64.ensures
-    ∙ ap (store_at 8 _ _) (c.store32-5.ensures
-    ∙ ap (store_at 4 _ _) (c.store32-4.ensures
-    ∙ ap (store_at 4 _ _) (c.store32-3.ensures ∙ ap (store_at 4 _ _) (c.store32-2.ensures ∙ ap (store_at 4 _ _) c.store32.ensures)))))
+    flag_stored _ c.args.s.reached _ c.store-7.ensures
+    ∙ ap (store_at 4 _ _) (c.store-6.ensures
+    ∙ ap (store_at 8 _ _) (c.store-5.ensures
+    ∙ ap (store_at 4 _ _) (c.store-4.ensures
+    ∙ ap (store_at 4 _ _) (c.store-3.ensures ∙ ap (store_at 4 _ _) (c.store-2.ensures ∙ ap (store_at 4 _ _) c.store.ensures)))))

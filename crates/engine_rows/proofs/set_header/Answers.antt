@@ -9,4 +9,4 @@ returns-then-i-ge8 c =
 
 pub returns : goal.returns
 returns c =
-    (λ h. c.store64.ensures, λ h. absurd (omega arith))
+    (λ h. c.store.ensures, λ h. absurd (omega arith))

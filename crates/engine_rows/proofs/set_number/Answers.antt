@@ -12,4 +12,4 @@ returns-then-k-ge4 c =
 pub returns : goal.returns
 returns c =
     let a = c.args in
-    (λ h. c.store16.ensures ∙ ap (λ z. store_at 2 (z + 56 + 2 * a.k) a.v a.b.now) c.slot_row.ensures.0, λ h. absurd (omega arith))
+    (λ h. c.store.ensures ∙ ap (λ z. store_at 2 (z + 56 + 2 * a.k) a.v a.b.now) c.slot_row.ensures.0, λ h. absurd (omega arith))

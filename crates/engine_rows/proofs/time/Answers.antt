@@ -5,4 +5,4 @@ use Rattle.engine_rows.proofs.time.Goals as goal
 
 pub returns : goal.returns
 returns c =
-    c.load64.ensures ∙ ap (λ z. load_at 8 z c.args.b.now) c.slot_row.ensures.0
+    c.load.ensures ∙ ap (λ z. load_at 8 z c.args.b.now) c.slot_row.ensures.0

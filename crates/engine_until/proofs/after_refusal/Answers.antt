@@ -1,11 +1,10 @@
--- The test's three numbers are those that end nothing.
-use native.Mathlib.Omega.{arith}
-use borrow.Author.Tests.{eqb-false}
+-- The three refusals are those that end nothing.
 use Rattle.engine_until.specs.Steps.{on, ends}
+use Rattle.engine_until.proofs.Endings.{ending}
 use Rattle.engine_until.proofs.after_refusal.Goals as goal
 
-pub returns : goal.returns
-returns c = ends (λ q. omega arith, λ q. omega (arith, eqb-false), λ q. omega (arith, eqb-false))
+pub returns-in-Idle : goal.returns-in-Idle
+returns-in-Idle c = on
 
-pub returns-then-n-eq14 : goal.returns-then-n-eq14
-returns-then-n-eq14 c = on
+pub returns-in_default : goal.returns-in_default
+returns-in_default c = ends (ending c.args.e c.in_default.not-Idle c.in_default.not-Unrun c.in_default.not-Full)

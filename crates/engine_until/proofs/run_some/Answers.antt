@@ -1,33 +1,18 @@
 -- Each call is one more of the list.
-use mathlib.Core.Path.{refl, ◌∙◌}
-use native.Mathlib.Omega.{arith}
+use Rattle.std.proofs.lemmas.Result.{err_from_is_err_and}
 use Rattle.engine_until.proofs.TurnLaws.{no_runs, more_runs, stretch_ran, stretch_refused}
 use Rattle.engine_until.proofs.run_some.Goals as goal
 
-pub shape_of-b-in-Refused : goal.shape_of-b-in-Refused
-shape_of-b-in-Refused c =
-    c.run_lowest.auto.b ∙ c.loop-left.invariant.0
+pub returns-in_err-run_lowest : goal.returns-in_err-run_lowest
+returns-in_err-run_lowest c =
+    let p = err_from_is_err_and c.from_residual.result c.from_residual.ensures.1 in
+    rw (p.1, p.2) (stretch_refused c.loop.invariant c.in_err-run_lowest.ensures)
 
-pub returns-in-Refused : goal.returns-in-Refused
-returns-in-Refused c =
-    stretch_refused c.loop-left.invariant.1 c.run_lowest.result c.run_lowest.ensures c.in-Refused.is
+pub loop-preserved : goal.loop-preserved
+loop-preserved c = more_runs c.loop.invariant c.run_lowest.result c.run_lowest.ensures
 
-pub loop-left-preserved : goal.loop-left-preserved
-loop-left-preserved c =
-    let inv = c.loop-left.invariant in
-    (c.run_lowest.auto.b ∙ inv.0, more_runs inv.1 c.run_lowest.result c.run_lowest.ensures)
-
-pub loop-left-init : goal.loop-left-init
-loop-left-init c = (refl, no_runs)
-
-pub overflow_sub-left : goal.overflow_sub-left
-overflow_sub-left c = omega arith
-
-pub loop-left-smaller : goal.loop-left-smaller
-loop-left-smaller c = omega arith
-
-pub shape_of-b : goal.shape_of-b
-shape_of-b c = c.loop-left.invariant.0
+pub loop-init : goal.loop-init
+loop-init c = no_runs
 
 pub returns : goal.returns
-returns c = stretch_ran c.loop-left.invariant.1
+returns c = stretch_ran c.loop.invariant
