@@ -1,6 +1,6 @@
 -- A part's costs at each station, added up entry by entry, until a charge would pass 64 bits with them.
 use mathlib.Core.Path.{◌≡◌, refl, sym, ◌∙◌}
-use mathlib.Core.Bool.{Bool, true, false, cond, ◌||◌}
+use mathlib.Core.Bool.{true, false, cond, ◌||◌}
 use mathlib.Core.List.{List}
 use Prim.Native.Nat.{ℕ, zero, suc, ◌+◌, ◌*◌, ◌≤◌, ◌<◌}
 use native.Mathlib.Nat.{le_refl}
@@ -9,6 +9,7 @@ use borrow.Author.Tests.{lt-ltb, le-ltb, eq-eqb}
 use lib.Dec.{eqb}
 use lib.ListN.{length, get_or, set, replicate, length-set, length-replicate}
 use lib.Seq.{get_or-set_same, get_or-set_other}
+use Rattle.std.proofs.Math.Bool.{or-true}
 use Rattle.words.proofs.Laws.{load_lt}
 use Rattle.refusal.specs.Tests.{charge_passes}
 use Rattle.line.proofs.Order.{Which, this, other, which}
@@ -31,17 +32,13 @@ unfolding any_passes
 none_passes zero f h = refl
 none_passes (suc n) f h = rw (none_passes n f (λ s l. h s (omega arith)), le-ltb 18446744073709551615 (f n) (h n (le_refl _)))
 
-or_true : (v : Bool) → (v || true) ≡ true
-or_true true = refl
-or_true false = refl
-
 one_passes : (n s : ℕ) (f : ℕ → ℕ) → s < n → 18446744073709551615 < f s → any_passes n f ≡ true
 unfolding any_passes
 one_passes zero s f l h = absurd (omega arith)
 one_passes (suc n) s f l h = go (which s n) (λ i. one_passes n s f i h)
   where
     go : Which s n → (s < n → any_passes n f ≡ true) → (any_passes n f || charge_passes (f n)) ≡ true
-    go (this e _) i = rw (lt-ltb 18446744073709551615 (f n) (rw (← e) h), or_true (any_passes n f))
+    go (this e _) i = rw (lt-ltb 18446744073709551615 (f n) (rw (← e) h), or-true (any_passes n f))
     go (other e _) i = rw (i (omega (arith, e)))
 
 -- ---- the first k entries are added

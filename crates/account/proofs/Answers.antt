@@ -8,6 +8,8 @@ use native.Mathlib.Omega.{arith}
 use borrow.Author.Tests.{ltb-false}
 use lib.Dec.{ltb}
 use lib.ListN.{length, drop}
+use Rattle.std.specs.Prelude.{Option, Some, None, Result, Ok, Err, ⊤}
+use Rattle.std.specs.Option.{ok_or}
 use Rattle.words.specs.Le.{store_at}
 use Rattle.words.proofs.Laws.{length_store, load_other, load_stored}
 use Rattle.refusal.specs.declared.Refusal.{Refusal}
@@ -16,25 +18,21 @@ use Rattle.refusal.specs.Tests.{account_space_out, judged}
 use Rattle.refusal.specs.Cases.{Case, first_of, checks_of}
 use Rattle.refusal.proofs.CheckingOrder.{first_judged}
 use Rattle.line.proofs.Fits.{or_false}
-use Rattle.account_answers.specs.declared.AccountAnswer.{AccountAnswer}
-use Rattle.account_answers.specs.declared.AccountAnswer.TheVariants.{Done, Refused}
-use Rattle.account_answers.specs.declared.ChargeAnswer.{ChargeAnswer}
-use Rattle.account_answers.specs.declared.ChargeAnswer.TheVariants.{Units, Refused as NoCharge}
-use Rattle.account_parts.specs.Part.{entries_of, part_out}
+use Rattle.account_parts.specs.Part.{part_out}
 use Rattle.account.specs.Answers.{account_says, charge_says}
-use Rattle.account.specs.Account.{reading_cost, frame_cost, charge_at, charged, any_passes, account_cases, part_cases, charge_cases}
+use Rattle.account.specs.Account.{reading_cost, frame_cost, charge_at, account_cases, part_cases, charge_cases}
 use Rattle.account.specs.Promises.{OpensAccount, ReadsPart, ReadsCharge, charge_of}
-use Rattle.account.specs.Steps.{Costs, CostsAdded, PartJudged, CostsStored, ChargesCleared}
+use Rattle.account.specs.Steps.{CostsAdded, PartJudged, answer_of, CostsStored, ChargesCleared}
 use Rattle.account.proofs.Storing.{drop_store}
 
 -- ---- an accepted call
 
 -- no answer is both
-pub done_refused : {e : Refusal} → Done ≡ Refused e → ⊥
+pub done_refused : {e : Refusal} → ◌≡◌ {A = Result ⊤ Refusal} (Ok tt) (Err e) → ⊥
 done_refused q = let z : ◌≡◌ {A = ℕ} 0 1 = cc in omega arith
 
 -- its first number does not hold, and none of the rest does
-pub passed : (v : Bool) (e : Refusal) (rest : AccountAnswer) → Done ≡ cond v (Refused e) rest → (v ≡ false) × (Done ≡ rest)
+pub passed : (v : Bool) (e : Refusal) (rest : Result ⊤ Refusal) → Ok tt ≡ cond v (Err e) rest → (v ≡ false) × (Ok tt ≡ rest)
 passed true e rest q = absurd (done_refused q)
 passed false e rest q = (refl, q)
 
@@ -51,32 +49,32 @@ room n bytes h =
 
 -- ---- the number
 
-pub said_number : (cs : List Case) (r : AccountAnswer) → r ≡ first_of Refused cs Done → account_says r ≡ judged (checks_of cs)
-said_number cs r q = ap account_says q ∙ first_judged account_says Refused cs Done (λ e. refl) refl
+pub said_number : (cs : List Case) (r : Result ⊤ Refusal) → r ≡ first_of Err cs (Ok tt) → account_says r ≡ judged (checks_of cs)
+said_number cs r q = ap account_says q ∙ first_judged account_says Err cs (Ok tt) (λ e. refl) refl
 
-pub reads_charge : (n s : ℕ) (xs : List ℕ) (r : ChargeAnswer) → r ≡ charge_of n s xs → ReadsCharge n s xs r
+pub reads_charge : (n s : ℕ) (xs : List ℕ) (r : Result ℕ Refusal) → r ≡ charge_of n s xs → ReadsCharge n s xs r
 unfolding charge_of
 reads_charge n s xs r q = record {
   answer = q;
-  number = ap charge_says q ∙ first_judged charge_says NoCharge (charge_cases n (length xs) s) (Units (charge_at xs s)) (λ e. refl) refl;
+  number = ap charge_says q ∙ first_judged charge_says Err (charge_cases n (length xs) s) (Ok (charge_at xs s)) (λ e. refl) refl;
 }
 
 -- ---- open
 
 module _ (n a b : ℕ) (xs : List ℕ) where
-  pub open_space : account_space_out n (length xs) ≡ true → OpensAccount n a b xs (Refused Space) xs
+  pub open_space : account_space_out n (length xs) ≡ true → OpensAccount n a b xs (Err Space) xs
   open_space h = record {
     answer = rw h;
-    number = said_number (account_cases n (length xs)) (Refused Space) (rw h);
+    number = said_number (account_cases n (length xs)) (Err Space) (rw h);
     refusal = λ _ _. refl;
     opens = λ q. absurd (done_refused (sym q));
   }
 
   pub open_done : (y1 y2 ys : List ℕ) → account_space_out n (length xs) ≡ false → a < 256 ^ 4 → b < 256 ^ 4 → y1 ≡ store_at 4 0 a xs
-      → y2 ≡ store_at 4 4 b y1 → ChargesCleared n n y2 ys → OpensAccount n a b xs Done ys
+      → y2 ≡ store_at 4 4 b y1 → ChargesCleared n n y2 ys → OpensAccount n a b xs (Ok tt) ys
   open_done y1 y2 ys h fa fb e1 e2 st = record {
     answer = rw h;
-    number = said_number (account_cases n (length xs)) Done (rw h);
+    number = said_number (account_cases n (length xs)) (Ok tt) (rw h);
     refusal = λ e q. absurd (done_refused q);
     opens = λ _. record {
       size = st.only.size ∙ ap length e2 ∙ length_store 4 4 b y1 ∙ long;
@@ -98,58 +96,61 @@ module _ (n a b : ℕ) (xs : List ℕ) where
 
 -- ---- a part is judged
 
-module _ (n : ℕ) (part xs ws : List ℕ) (w : Costs ws) where
-  judged_refused : (e : Refusal) → Refused e ≡ first_of Refused (part_cases n (length xs) (reading_cost xs) (frame_cost xs) (charge_at xs) part) Done
-      → PartJudged n part xs (Refused e) ws
-  judged_refused e h = record { words = w; answer = h; fits = λ q. absurd (done_refused (sym q)); costs = λ q. absurd (done_refused (sym q)) }
+pub none_some : {ws : List ℕ} → ◌≡◌ {A = Option (List ℕ)} None (Some ws) → ⊥
+none_some q = let z : ◌≡◌ {A = ℕ} 0 1 = cc in omega arith
 
-  pub judged_space : account_space_out n (length xs) ≡ true → PartJudged n part xs (Refused Space) ws
-  judged_space h = judged_refused Space (rw h)
+pub some_same : {vs ws : List ℕ} → ◌≡◌ {A = Option (List ℕ)} (Some vs) (Some ws) → vs ≡ ws
+some_same q = cc
 
-  pub judged_part : account_space_out n (length xs) ≡ false → part_out n part ≡ true → PartJudged n part xs (Refused Part) ws
-  judged_part h p = judged_refused Part (rw (h, p))
+err_ok : {e : Refusal} {ws : List ℕ} → ◌≡◌ {A = Result (List ℕ) Refusal} (Err e) (Ok ws) → ⊥
+err_ok q = let z : ◌≡◌ {A = ℕ} 0 1 = cc in omega arith
 
-module _ (n : ℕ) (part xs : List ℕ) (h : account_space_out n (length xs) ≡ false) (p : part_out n part ≡ false) (a b : ℕ)
-    (ea : a ≡ reading_cost xs) (eb : b ≡ frame_cost xs) (ws : List ℕ) (v : Bool) (ad : CostsAdded a b n part xs v ws) where
-  passes : v ≡ any_passes n (charged (reading_cost xs) (frame_cost xs) (charge_at xs) (entries_of part))
-  passes = rw (← ea, ← eb) ad.passes
+ok_same : {vs ws : List ℕ} → ◌≡◌ {A = Result (List ℕ) Refusal} (Ok vs) (Ok ws) → vs ≡ ws
+ok_same q = cc
 
-  pub judged_charge : v ≡ true → PartJudged n part xs (Refused Charge) ws
-  judged_charge e = judged_refused n part xs ws ad.words Charge (rw (h, p, ← passes, e))
+module _ (n : ℕ) (part xs : List ℕ) where
+  pub judged_space : account_space_out n (length xs) ≡ true → PartJudged n part xs (Err Space)
+  judged_space h = record { answer = rw h; fits = λ ws q. absurd (err_ok q) }
 
-  pub judged_done : v ≡ false → PartJudged n part xs Done ws
-  judged_done e = record {
-    words = ad.words;
-    answer = rw (h, p, ← passes, e);
-    fits = λ _. ad.fits e;
-    costs = λ _. rw (← ea, ← eb) (ad.costs e);
-  }
+  pub judged_part : account_space_out n (length xs) ≡ false → part_out n part ≡ true → PartJudged n part xs (Err Part)
+  judged_part h p = record { answer = rw (h, p); fits = λ ws q. absurd (err_ok q) }
+
+  pub judged_costs : account_space_out n (length xs) ≡ false → part_out n part ≡ false → (o : Option (List ℕ))
+      → CostsAdded (reading_cost xs) (frame_cost xs) n part xs o → PartJudged n part xs (ok_or o Charge)
+  judged_costs h p (Some vs) c = record { answer = rw (h, p, ← c.passes); fits = λ ws q. c.fits ws (ap Some (ok_same q)) }
+  judged_costs h p None c = record { answer = rw (h, p, ← c.passes); fits = λ ws q. absurd (err_ok q) }
 
 -- ---- read
 
-module _ (n : ℕ) (part xs ws : List ℕ) (r : AccountAnswer) (j : PartJudged n part xs r ws) where
-  pub read_refused : (e : Refusal) → r ≡ Refused e → ReadsPart n part xs (Refused e) xs
-  read_refused e q = record {
-    answer = sym q ∙ j.answer;
-    number = said_number (part_cases n (length xs) (reading_cost xs) (frame_cost xs) (charge_at xs) part) (Refused e) (sym q ∙ j.answer);
-    refusal = λ _ _. refl;
-    takes = λ d. absurd (done_refused (sym d));
-  }
+module _ (n : ℕ) (part xs : List ℕ) (r : Result (List ℕ) Refusal) (j : PartJudged n part xs r) where
+  pub read_refused : (e : Refusal) → r ≡ Err e → ReadsPart n part xs (Err e) xs
+  read_refused e q =
+      let a = ap answer_of (sym q) ∙ j.answer in
+      record {
+        answer = a;
+        number = said_number (part_cases n (length xs) (reading_cost xs) (frame_cost xs) (charge_at xs) part) (Err e) a;
+        refusal = λ _ _. refl;
+        takes = λ d. absurd (done_refused (sym d));
+      }
 
-  -- a part that is taken has passed 7
-  pub room_taken : r ≡ Done → Roomy n (length xs)
-  room_taken d = room n (length xs) (passed (account_space_out n (length xs)) Space _ (sym d ∙ j.answer)).0
+  module _ (ws : List ℕ) (q : r ≡ Ok ws) where
+    taken : ◌≡◌ {A = Result ⊤ Refusal} (Ok tt) (first_of Err (part_cases n (length xs) (reading_cost xs) (frame_cost xs) (charge_at xs) part) (Ok tt))
+    taken = ap answer_of (sym q) ∙ j.answer
 
-  pub read_done : r ≡ Done → (ys : List ℕ) → CostsStored n part ws xs ys → ReadsPart n part xs Done ys
-  read_done d ys st = record {
-    answer = sym d ∙ j.answer;
-    number = said_number (part_cases n (length xs) (reading_cost xs) (frame_cost xs) (charge_at xs) part) Done (sym d ∙ j.answer);
-    refusal = λ e q. absurd (done_refused q);
-    takes = λ _. record {
-      size = st.only.size;
-      reading = st.only.reading;
-      frame = st.only.frame;
-      charges = λ s l. let e = j.costs d s l in st.charges _ _ s l e ∙ ap (λ v. charge_at xs s + v) e;
-      rest = st.only.rest;
-    };
-  }
+    -- a part that is taken has passed 7
+    pub room_taken : Roomy n (length xs)
+    room_taken = room n (length xs) (passed (account_space_out n (length xs)) Space _ taken).0
+
+    pub read_done : (ys : List ℕ) → CostsStored n part ws xs ys → ReadsPart n part xs (Ok tt) ys
+    read_done ys st = record {
+      answer = taken;
+      number = said_number (part_cases n (length xs) (reading_cost xs) (frame_cost xs) (charge_at xs) part) (Ok tt) taken;
+      refusal = λ e q. absurd (done_refused q);
+      takes = λ _. record {
+        size = st.only.size;
+        reading = st.only.reading;
+        frame = st.only.frame;
+        charges = λ s l. let e = (j.fits ws q).costs s l in st.charges _ _ s l e ∙ ap (λ v. charge_at xs s + v) e;
+        rest = st.only.rest;
+      };
+    }

@@ -6,15 +6,14 @@ use Prim.Native.Nat.{ℕ, ◌+◌, ◌%◌, ◌<◌}
 use native.Mathlib.Omega.{arith}
 use borrow.Author.Tests.{lt-leb}
 use lib.ListN.{length, length-append}
+use Rattle.std.specs.Prelude.{Result, Ok, Err, ⊤}
 use Rattle.words.proofs.Sums.{sum_same}
+use Rattle.refusal.specs.declared.Refusal.{Refusal}
 use Rattle.refusal.specs.declared.Refusal.TheVariants.{Space, Part}
 use Rattle.refusal.specs.Tests.{account_space_out}
 use Rattle.refusal.specs.Cases.{first_of}
 use Rattle.line.specs.Order.{All}
 use Rattle.line.proofs.Members.{all_append}
-use Rattle.account_answers.specs.declared.AccountAnswer.{AccountAnswer}
-use Rattle.account_answers.specs.declared.AccountAnswer.TheVariants.{Done, Refused}
-use Rattle.account_answers.specs.declared.ChargeAnswer.TheVariants.{Units}
 use Rattle.account_parts.specs.Part.{first_entries, entries_of, any_entry_out, part_out}
 use Rattle.account_parts.specs.Cost.{cost_at}
 use Rattle.account_parts.proofs.Costs.{cost_join, targets_in, sum_costs}
@@ -28,7 +27,7 @@ use Rattle.account.proofs.Answers.{passed, said_number}
 
 -- ---- a part that is taken has whole entries, and 19 refuses none of them
 
-taken_whole : (n bytes a b : ℕ) (f : ℕ → ℕ) (part : List ℕ) → Done ≡ first_of Refused (part_cases n bytes a b f part) Done
+taken_whole : (n bytes a b : ℕ) (f : ℕ → ℕ) (part : List ℕ) → ◌≡◌ {A = Result ⊤ Refusal} (Ok tt) (first_of Err (part_cases n bytes a b f part) (Ok tt))
     → (length part % 24 ≡ 0) × (any_entry_out n (entries_of part) ≡ false)
 taken_whole n bytes a b f part h = part_whole n part (passed (part_out n part) Part _ (passed (account_space_out n bytes) Space _ h).1).0
 
@@ -45,7 +44,7 @@ record Stands (n a b bytes : ℕ) (log xs : List ℕ) : Type 0 where
 
 module _ (n a b bytes : ℕ) where
   judged_by : (log xs : List ℕ) (h : Handed) (ys : List ℕ) → Stands n a b bytes log xs → ReadsPart n h.part xs h.said ys
-      → h.said ≡ first_of Refused (part_cases n bytes a b (λ s. cost_at a b s (entries_of log)) h.part) Done
+      → h.said ≡ first_of Err (part_cases n bytes a b (λ s. cost_at a b s (entries_of log)) h.part) (Ok tt)
   judged_by log xs h ys k r =
       r.answer
       ∙ rw (k.size, k.reading, k.frame, passes_same n (charged a b (charge_at xs) (entries_of h.part)) (charged a b (λ s. cost_at a b s (entries_of log)) (entries_of h.part)) (λ s l. ap (λ v. v + cost_at a b s (entries_of h.part)) (k.charges s l)))
@@ -54,9 +53,9 @@ module _ (n a b bytes : ℕ) where
       → Stands n a b bytes (log ++ taken_of h.part h.said) ys
   stands_next log xs h ys k r = go h.said refl
     where
-      go : (v : AccountAnswer) → h.said ≡ v → Stands n a b bytes (log ++ taken_of h.part v) ys
-      go (Refused e) q = rw (append-nil log, r.refusal e q) k
-      go Done q = record {
+      go : (v : Result ⊤ Refusal) → h.said ≡ v → Stands n a b bytes (log ++ taken_of h.part v) ys
+      go (Err e) q = rw (append-nil log, r.refusal e q) k
+      go (Ok _) q = record {
         size = t.size ∙ k.size;
         reading = t.reading ∙ k.reading;
         frame = t.frame ∙ k.frame;
@@ -83,16 +82,16 @@ module _ (n a b bytes : ℕ) where
 
   -- a part in the middle of the list
   parts_judged : (log : List ℕ) {xs ys : List ℕ} (bs : List Handed) (h : Handed) (cs : List Handed) → Stands n a b bytes log xs → PartsRead n xs (bs ++ (h ∷ cs)) ys
-      → h.said ≡ first_of Refused (part_cases n bytes a b (λ s. cost_at a b s (entries_of (log ++ log_read bs))) h.part) Done
+      → h.said ≡ first_of Err (part_cases n bytes a b (λ s. cost_at a b s (entries_of (log ++ log_read bs))) h.part) (Ok tt)
   unfolding log_read
   parts_judged log [] h cs k (next {xs = xs} {ys = ys} r c) = rw (append-nil log) (judged_by log xs h ys k r)
   parts_judged log (d ∷ bs) h cs k (next {xs = xs} {ys = ys} r c) =
-      subst (λ l. h.said ≡ first_of Refused (part_cases n bytes a b (λ s. cost_at a b s (entries_of l)) h.part) Done) (append_assoc log (taken_of d.part d.said) (log_read bs))
+      subst (λ l. h.said ≡ first_of Err (part_cases n bytes a b (λ s. cost_at a b s (entries_of l)) h.part) (Ok tt)) (append_assoc log (taken_of d.part d.said) (log_read bs))
       (parts_judged (log ++ taken_of d.part d.said) bs h cs (stands_next log xs d ys k r) c)
 
 -- ---- the claim
 
-units_same : {v w : ℕ} → Units v ≡ Units w → v ≡ w
+units_same : {v w : ℕ} → ◌≡◌ {A = Result ℕ Refusal} (Ok v) (Ok w) → v ≡ w
 units_same q = cc
 
 pub account_claim : AccountClaim
@@ -113,9 +112,9 @@ account_claim n a b before xs ys hs o c = record {
     w : Stands n a b (length before) (log_read hs) ys
     w = parts_stand n a b (length before) [] first c
 
-    each : (s : ℕ) → s < n → charge_of n s ys ≡ Units (cost_at a b s (entries_of (log_read hs)))
-    each s l = rw (w.size, (passed (account_space_out n (length before)) Space Done o.answer).0, lt-leb n s l, w.charges s l)
+    each : (s : ℕ) → s < n → charge_of n s ys ≡ Ok (cost_at a b s (entries_of (log_read hs)))
+    each s l = rw (w.size, (passed (account_space_out n (length before)) Space (Ok tt) o.answer).0, lt-leb n s l, w.charges s l)
 
     judges : (bs : List Handed) (h : Handed) (cs : List Handed) → hs ≡ bs ++ (h ∷ cs)
-        → h.said ≡ first_of Refused (part_cases n (length before) a b (λ s. cost_at a b s (entries_of (log_read bs))) h.part) Done
+        → h.said ≡ first_of Err (part_cases n (length before) a b (λ s. cost_at a b s (entries_of (log_read bs))) h.part) (Ok tt)
     judges bs h cs e = parts_judged n a b (length before) [] bs h cs first (subst (λ l. PartsRead n xs l ys) e c)

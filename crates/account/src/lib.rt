@@ -4,73 +4,53 @@
 
 #![tactic(auto)]
 
-ghost use Rattle.std.specs.Prelude.{◌≡◌, ◌≤◌, length, replicate};
+ghost use Rattle.std.specs.Prelude.{◌≡◌, ◌≤◌, length};
 ghost use Rattle.refusal.specs.Tests.{account_bytes, account_space_out};
 ghost use Rattle.account.specs.Promises.{OpensAccount, ReadsPart, ReadsCharge};
 ghost use Rattle.account.specs.Steps.{Costs, CostsFit, CostsAdded, PartJudged, CostsStored, ChargesCleared};
 
-pub use account_answers::{AccountAnswer, ChargeAnswer};
 use refusal::Refusal;
 
 // Does 7 refuse n stations in a buffer of so many bytes?
 fn space_out(n: u64, bytes: usize) -> bool
     ensures { result ≡ account_space_out n bytes }
 {
-    if n < 1 {
-        return true;
-    }
-    if 256 < n {
-        return true;
-    }
-    bytes < 8 + 8 * n as usize
+    n < 1 || 256 < n || bytes < 8 + 8 * n as usize
 }
 
-// Adds what a part's entries cost at each of n stations. Answers whether a charge would pass 64 bits.
-fn add_costs(
-    b: &[u8],
-    part: &[u8],
-    reading: u32,
-    frame: u32,
-    n: usize,
-    costs: &mut [u64; 256],
-) -> bool
-    requires { (n ≤ 256) × (costs.old ≡ replicate 256 0) }
-    ensures { CostsAdded reading frame n part.now b.now result costs.new }
+// What a part's entries cost at each of n stations; none where a charge would pass 64 bits with it.
+fn add_costs(b: &[u8], part: &[u8], reading: u32, frame: u32, n: usize) -> Option<[u64; 256]>
+    requires { n ≤ 256 }
+    ensures { CostsAdded reading frame n part.now b.now result }
 {
-    let count = part.len() / 24;
-    let mut k = 0;
-    while k < count {
-        let s = words::load16(part, 24 * k + 16) as usize;
-        let c = account_parts::cost(words::load32(part, 24 * k + 20), reading, frame);
+    let mut costs = [0; 256];
+    for k in 0..part.len() / 24 {
+        let s = words::load::<u16>(part, 24 * k + 16) as usize;
+        let c = account_parts::cost(words::load::<u32>(part, 24 * k + 20), reading, frame);
         if s < n {
             let cost = costs[s];
-            if 18446744073709551615 - c < words::load64(b, 8 + 8 * s) + cost {
-                return true;
+            if 18446744073709551615 - c < words::load::<u64>(b, 8 + 8 * s) + cost {
+                return None;
             }
             costs[s] = cost + c;
         }
-        k += 1;
     }
-    false
+    Some(costs)
 }
 
 // Which of 7, 19 and 20 refuses a part; where none does, what it costs at each station.
-fn judge_part(b: &[u8], n: u64, part: &[u8], costs: &mut [u64; 256]) -> AccountAnswer
-    requires { costs.old ≡ replicate 256 0 }
-    ensures { PartJudged n part.now b.now result costs.new }
+fn judge_part(b: &[u8], n: u64, part: &[u8]) -> Result<[u64; 256], Refusal>
+    ensures { PartJudged n part.now b.now result }
 {
     if space_out(n, b.len()) {
-        return AccountAnswer::Refused(Refusal::Space);
+        return Err(Refusal::Space);
     }
     if account_parts::part_out(part, n as u16) {
-        return AccountAnswer::Refused(Refusal::Part);
+        return Err(Refusal::Part);
     }
-    let reading = words::load32(b, 0);
-    let frame = words::load32(b, 4);
-    if add_costs(b, part, reading, frame, n as usize, costs) {
-        return AccountAnswer::Refused(Refusal::Charge);
-    }
-    AccountAnswer::Done
+    let reading = words::load::<u32>(b, 0);
+    let frame = words::load::<u32>(b, 4);
+    add_costs(b, part, reading, frame, n as usize).ok_or(Refusal::Charge)
 }
 
 // Charges the stations that a part's entries name with their costs, each once.
@@ -78,16 +58,13 @@ fn store_costs(b: &mut [u8], part: &[u8], n: usize, costs: &mut [u64; 256])
     requires { (account_bytes n ≤ length b.old) × ((n ≤ 256) × (Costs costs.old × CostsFit n costs.old b.old)) }
     ensures { CostsStored n part.now costs.old b.old b.new }
 {
-    let count = part.len() / 24;
-    let mut i = 0;
-    while i < count {
-        let target = words::load16(part, 24 * i + 16) as usize;
+    for i in 0..part.len() / 24 {
+        let target = words::load::<u16>(part, 24 * i + 16) as usize;
         if target < n {
-            let charge = words::load64(b, 8 + 8 * target) + costs[target];
-            words::store64(b, 8 + 8 * target, charge);
+            let charge = words::load::<u64>(b, 8 + 8 * target) + costs[target];
+            words::store::<u64>(b, 8 + 8 * target, charge);
             costs[target] = 0;
         }
-        i += 1;
     }
 }
 
@@ -96,50 +73,42 @@ fn clear_charges(b: &mut [u8], n: usize)
     requires { (account_bytes n ≤ length b.old) × (n ≤ 256) }
     ensures { ChargesCleared n n b.old b.new }
 {
-    let mut s = 0;
-    while s < n {
-        words::store64(b, 8 + 8 * s, 0);
-        s += 1;
+    for s in 0..n {
+        words::store::<u64>(b, 8 + 8 * s, 0);
     }
 }
 
 // An account of n stations with nothing charged: what a reading costs, and a frame.
-pub fn open(n: u64, reading: u32, frame: u32, b: &mut [u8]) -> AccountAnswer
+pub fn open(n: u64, reading: u32, frame: u32, b: &mut [u8]) -> Result<(), Refusal>
     ensures { OpensAccount n reading frame b.old result b.new }
 {
     if space_out(n, b.len()) {
-        return AccountAnswer::Refused(Refusal::Space);
+        return Err(Refusal::Space);
     }
-    words::store32(b, 0, reading);
-    words::store32(b, 4, frame);
+    words::store::<u32>(b, 0, reading);
+    words::store::<u32>(b, 4, frame);
     clear_charges(b, n as usize);
-    AccountAnswer::Done
+    Ok(())
 }
 
 // A part of a committed log is charged, whole or not at all.
-pub fn read(b: &mut [u8], n: u64, part: &[u8]) -> AccountAnswer
+pub fn read(b: &mut [u8], n: u64, part: &[u8]) -> Result<(), Refusal>
     ensures { ReadsPart n part.now b.old result b.new }
 {
-    let mut costs = [0u64; 256];
-    let r = judge_part(b, n, part, &mut costs);
-    match r {
-        AccountAnswer::Refused(e) => AccountAnswer::Refused(e),
-        AccountAnswer::Done => {
-            store_costs(b, part, n as usize, &mut costs);
-            AccountAnswer::Done
-        }
-    }
+    let mut costs = judge_part(b, n, part)?;
+    store_costs(b, part, n as usize, &mut costs);
+    Ok(())
 }
 
 // The charge of a station.
-pub fn charge(b: &[u8], n: u64, station: u64) -> ChargeAnswer
+pub fn charge(b: &[u8], n: u64, station: u64) -> Result<u64, Refusal>
     ensures { ReadsCharge n station b.now result }
 {
     if space_out(n, b.len()) {
-        return ChargeAnswer::Refused(Refusal::Space);
+        return Err(Refusal::Space);
     }
     if n <= station {
-        return ChargeAnswer::Refused(Refusal::Station);
+        return Err(Refusal::Station);
     }
-    ChargeAnswer::Units(words::load64(b, 8 + 8 * station as usize))
+    Ok(words::load::<u64>(b, 8 + 8 * station as usize))
 }

@@ -5,6 +5,8 @@ use mathlib.Core.List.{List, map, flatten}
 use Prim.Native.Nat.{ℕ, ◌+◌, ◌*◌}
 use native.Mathlib.Omega.{arith}
 use lib.ListN.{length}
+use Rattle.std.specs.Prelude.{Result, Ok, Err, ⊤}
+use Rattle.refusal.specs.declared.Refusal.{Refusal}
 use Rattle.refusal.specs.declared.Refusal.TheVariants.{Space, Part, Charge}
 use Rattle.refusal.specs.Tests.{account_space_out}
 use Rattle.line.specs.Order.{All}
@@ -15,9 +17,6 @@ use Rattle.rules.proofs.Calls.LogEvents.{LogEvent, log_events}
 use Rattle.plan_format.specs.Line.{line_of}
 use Rattle.engine.specs.Session.{Whole}
 use Rattle.engine.proofs.Printouts.{listed}
-use Rattle.account_answers.specs.declared.AccountAnswer.{AccountAnswer}
-use Rattle.account_answers.specs.declared.AccountAnswer.TheVariants.{Done, Refused}
-use Rattle.account_answers.specs.declared.ChargeAnswer.TheVariants.{Units}
 use Rattle.account_parts.specs.Part.{entries_of, part_out}
 use Rattle.account_parts.specs.Cost.{cost_at, readings, frames}
 use Rattle.account.specs.Account.{reading_cost, frame_cost, charge_at, charged, any_passes}
@@ -34,13 +33,13 @@ use Rattle.account_commits.proofs.Taken.{all_taken}
 -- ---- 19
 
 -- it is not the answer to a part of which it does not hold
-never : (n : ℕ) (part xs ys : List ℕ) (r : AccountAnswer) → part_out n part ≡ false → ReadsPart n part xs r ys → r ≡ Refused Part → ⊥
+never : (n : ℕ) (part xs ys : List ℕ) (r : Result ⊤ Refusal) → part_out n part ≡ false → ReadsPart n part xs r ys → r ≡ Err Part → ⊥
 never n part xs ys r f w e = go (account_space_out n (length xs)) passes (sym e ∙ w.answer ∙ rw f)
   where
     passes : Bool
     passes = any_passes n (charged (reading_cost xs) (frame_cost xs) (charge_at xs) (entries_of part))
 
-    go : (u v : Bool) → Refused Part ≡ cond u (Refused Space) (cond v (Refused Charge) Done) → ⊥
+    go : (u v : Bool) → ◌≡◌ {A = Result ⊤ Refusal} (Err Part) (cond u (Err Space) (cond v (Err Charge) (Ok tt))) → ⊥
     go true v q = let z : ◌≡◌ {A = ℕ} 0 1 = cc in omega arith
     go false true q = let z : ◌≡◌ {A = ℕ} 0 1 = cc in omega arith
     go false false q = done_refused (sym q)
@@ -53,7 +52,7 @@ module _ {n a b : ℕ} {hs : List Handed} {ys : List ℕ} (c : Accounting n a b 
 
   -- an opening that is accepted has passed 7
   space : account_space_out n (length c.before) ≡ false
-  space = (passed (account_space_out n (length c.before)) Space Done c.opening.answer).0
+  space = (passed (account_space_out n (length c.before)) Space (Ok tt) c.opening.answer).0
 
 -- ---- the claim
 
@@ -61,7 +60,7 @@ pub committed_charge : CommittedCharge
 committed_charge plan setting ms o k r = record {
   fits = fits;
   never_19 = all_map (λ m f xs ys v w e. never (line_of plan).count (log_in m.said) xs ys v f w e) ms fits;
-  each = λ n a b hs ys c e s l. (session c).each s l ∙ ap (λ es. Units (cost_at a b s es)) (read e);
+  each = λ n a b hs ys c e s l. (session c).each s l ∙ ap (λ es. Ok (cost_at a b s es)) (read e);
   sum = λ n a b hs ys c e f h. (session c).sum f h ∙ ap (λ es. a * readings es + b * frames es) (read e);
   taken = λ a b hs ys c e low.
       all_taken (line_of plan).count a b (length c.before) hs ys (session c) (space c) (logs ms) (λ s l. rw entries_are (low s l))

@@ -6,9 +6,9 @@ use Prim.Native.Nat.{ℕ, ◌+◌, ◌%◌, ◌≤◌, ◌<◌}
 use native.Mathlib.Omega.{arith}
 use borrow.Author.Tests.{ltb-false}
 use lib.ListN.{length, length-append}
+use Rattle.std.specs.Prelude.{Ok}
 use Rattle.refusal.specs.Tests.{account_space_out, charge_passes}
 use Rattle.line.specs.Order.{All}
-use Rattle.account_answers.specs.declared.AccountAnswer.TheVariants.{Done}
 use Rattle.account_parts.specs.Part.{entries_of, part_out}
 use Rattle.account_parts.specs.Cost.{cost_at}
 use Rattle.account_parts.proofs.Costs.{cost_join}
@@ -23,15 +23,15 @@ use Rattle.account.proofs.Adding.{none_passes}
 abbrev joined : List Handed → List ℕ
 joined hs = flatten (map (λ h. h.part) hs)
 
-read_one : (h : Handed) → h.said ≡ Done → taken_of h.part h.said ≡ h.part
+read_one : (h : Handed) → h.said ≡ Ok tt → taken_of h.part h.said ≡ h.part
 read_one h d = rw d
 
-read_more : (hs : List Handed) (h : Handed) → h.said ≡ Done → log_read (hs ++ (h ∷ [])) ≡ log_read hs ++ h.part
+read_more : (hs : List Handed) (h : Handed) → h.said ≡ Ok tt → log_read (hs ++ (h ∷ [])) ≡ log_read hs ++ h.part
 unfolding log_read
 read_more [] h d = append-nil _ ∙ read_one h d
 read_more (k ∷ hs) h d = ap (λ l. taken_of k.part k.said ++ l) (read_more hs h d) ∙ sym (append_assoc (taken_of k.part k.said) (log_read hs) h.part)
 
-read_all : (hs : List Handed) → All (λ h. h.said ≡ Done) hs → log_read hs ≡ joined hs
+read_all : (hs : List Handed) → All (λ h. h.said ≡ Ok tt) hs → log_read hs ≡ joined hs
 unfolding log_read flatten
 read_all [] a = refl
 read_all (h ∷ hs) a = rw (read_one h a.0, read_all hs a.1)
@@ -49,7 +49,7 @@ module _ (n a b bytes : ℕ) (hs : List Handed) (ys : List ℕ) (c : AccountSess
     (low : (s : ℕ) → s < n → charge_passes (cost_at a b s (entries_of log)) ≡ false) where
   -- those after the first ones, where these are taken
   taken_after : (before after : List Handed) → hs ≡ before ++ after → log ≡ log_read before ++ joined after → length (log_read before) % 24 ≡ 0
-      → All (λ part. part_out n part ≡ false) (map (λ h. h.part) after) → All (λ h. h.said ≡ Done) after
+      → All (λ part. part_out n part ≡ false) (map (λ h. h.part) after) → All (λ h. h.said ≡ Ok tt) after
   unfolding flatten
   taken_after before [] e j w f = tt
   taken_after before (h ∷ after) e j w f =
@@ -67,7 +67,7 @@ module _ (n a b bytes : ℕ) (hs : List Handed) (ys : List ℕ) (c : AccountSess
             cost_front a b s (log_read before) h.part (joined after) w whole,
           )
 
-      done : h.said ≡ Done
+      done : h.said ≡ Ok tt
       done = c.judges before h after e ∙ rw (space, f.0, none_passes n _ room)
 
       whole_now : length (log_read (before ++ (h ∷ []))) % 24 ≡ 0
@@ -76,7 +76,7 @@ module _ (n a b bytes : ℕ) (hs : List Handed) (ys : List ℕ) (c : AccountSess
       next : log ≡ log_read (before ++ (h ∷ [])) ++ joined after
       next = rw (read_more before h done) (j ∙ sym (append_assoc (log_read before) h.part (joined after)))
 
-  pub all_taken : log ≡ joined hs → All (λ part. part_out n part ≡ false) (map (λ h. h.part) hs) → All (λ h. h.said ≡ Done) hs × (log_read hs ≡ log)
+  pub all_taken : log ≡ joined hs → All (λ part. part_out n part ≡ false) (map (λ h. h.part) hs) → All (λ h. h.said ≡ Ok tt) hs × (log_read hs ≡ log)
   unfolding log_read
   all_taken j f =
       let d = taken_after [] hs refl j refl f in

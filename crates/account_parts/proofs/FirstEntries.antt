@@ -1,11 +1,12 @@
--- The first entries of a part, one more at a time: whether 19 refuses one of them, and what they cost.
-use mathlib.Core.Path.{◌≡◌, refl, sym}
-use mathlib.Core.Bool.{Bool, true, false, ◌||◌}
+-- The first entries of a part, and what one more costs.
+use mathlib.Core.Path.{◌≡◌, refl, sym, ap, ◌∙◌}
+use mathlib.Core.Bool.{◌||◌}
 use mathlib.Core.List.{List, [], ◌∷◌, ◌++◌, append-nil, append_assoc}
 use Prim.Native.Nat.{ℕ, zero, suc, ◌+◌, ◌*◌, ◌≤◌, ◌<◌}
 use native.Mathlib.Decide.{dec_lt}
 use native.Mathlib.Numerals.{add-one}
 use native.Mathlib.Omega.{arith}
+use Rattle.std.proofs.Math.Bool.{or_assoc}
 use Rattle.line.proofs.Order.{Which, this, other, which}
 use Rattle.account_parts.specs.Part.{LogEntry, entry_at, first_entries, entry_out, any_entry_out}
 use Rattle.account_parts.specs.Cost.{cost_here, cost_at}
@@ -31,27 +32,8 @@ front k (suc m) xs h = go (dec_lt m k) (λ l. front k m xs l)
 pub any_join : (n : ℕ) (es fs : List LogEntry) → any_entry_out n (es ++ fs) ≡ (any_entry_out n es || any_entry_out n fs)
 unfolding any_entry_out
 any_join n [] fs = refl
-any_join n (e ∷ es) fs = go (entry_out n e) (any_join n es fs)
-  where
-    go : (v : Bool) → any_entry_out n (es ++ fs) ≡ (any_entry_out n es || any_entry_out n fs)
-        → (v || any_entry_out n (es ++ fs)) ≡ ((v || any_entry_out n es) || any_entry_out n fs)
-    go true i = refl
-    go false i = i
-
-or_true : (v : Bool) → (v || true) ≡ true
-or_true true = refl
-or_true false = refl
-
-module _ (n : ℕ) (xs : List ℕ) (k : ℕ) where
-  pub any_next : any_entry_out n (first_entries k xs) ≡ false → entry_out n (entry_at (24 * k) xs) ≡ false → any_entry_out n (first_entries (k + 1) xs) ≡ false
-  unfolding first_entries any_entry_out
-  any_next h e = rw (add-one, any_join n (first_entries k xs) (entry_at (24 * k) xs ∷ []), h, e)
-
-  pub any_here : (m : ℕ) → k < m → entry_out n (entry_at (24 * k) xs) ≡ true → any_entry_out n (first_entries m xs) ≡ true
-  unfolding first_entries any_entry_out
-  any_here m l e =
-      let f = front (suc k) m xs l in
-      rw (f.1, any_join n (first_entries (suc k) xs) f.0, any_join n (first_entries k xs) (entry_at (24 * k) xs ∷ []), e, or_true (any_entry_out n (first_entries k xs)))
+any_join n (e ∷ es) fs =
+    ap (λ b. entry_out n e || b) (any_join n es fs) ∙ sym (or_assoc (entry_out n e) (any_entry_out n es) (any_entry_out n fs))
 
 -- ---- costs
 

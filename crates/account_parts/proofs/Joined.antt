@@ -35,7 +35,7 @@ load_second n i xs ys h =
 
 -- ---- an entry
 
-entry_first : (at : ℕ) (xs ys : List ℕ) → at + 24 ≤ length xs → entry_at at (xs ++ ys) ≡ entry_at at xs
+pub entry_first : (at : ℕ) (xs ys : List ℕ) → at + 24 ≤ length xs → entry_at at (xs ++ ys) ≡ entry_at at xs
 unfolding entry_at
 entry_first at xs ys h =
     rw (
@@ -68,7 +68,7 @@ unfolding first_entries
 entries_first zero xs ys h = refl
 entries_first (suc k) xs ys h = rw (entries_first k xs ys (omega arith), entry_first (24 * k) xs ys (omega arith))
 
-entries_second : (j k : ℕ) (xs ys : List ℕ) → length xs ≡ 24 * j → 24 * k ≤ length ys
+pub entries_second : (j k : ℕ) (xs ys : List ℕ) → length xs ≡ 24 * j → 24 * k ≤ length ys
     → first_entries (j + k) (xs ++ ys) ≡ first_entries j xs ++ first_entries k ys
 unfolding first_entries
 entries_second j zero xs ys e h = rw (add-zero j, append-nil (first_entries j xs)) (entries_first j xs ys (omega arith))

@@ -3,3 +3,4 @@ pub mod Costs
 pub mod FirstEntries
 pub mod Joined
 pub mod WholeParts
+pub mod Chunks

@@ -2,61 +2,37 @@
 
 #![tactic(auto)]
 
-ghost use Rattle.std.specs.Prelude.{◌≡◌, ◌+◌, ◌≤◌, length};
+ghost use Rattle.std.specs.Prelude.{◌≡◌};
 ghost use Rattle.account_parts.specs.Part.{entry_at, source_out, entry_out, part_out};
 ghost use Rattle.account_parts.specs.Cost.{cost_of};
 
-use line::Meant;
 use refusal::HORIZON;
 
 // Is a source neither a station below n nor that of a post?
 fn source_out(n: u16, source: u16) -> bool
     ensures { result ≡ source_out n source }
 {
-    if source < n {
-        return false;
-    }
-    source != line::POSTED
+    source >= n && source != line::POSTED
 }
 
-// Does 19 refuse the entry at that byte?
-fn entry_out(part: &[u8], at: usize, n: u16) -> bool
-    requires { at + 24 ≤ length part.now }
-    ensures { result ≡ entry_out n (entry_at at part.now) }
+// Does 19 refuse the entry at the front of the bytes?
+#[tactic(auto, unfolding(crate::specs::Part::entry_at, crate::specs::Part::entry_out), using(crate::proofs::OneEntry::unsuited_is))]
+fn entry_out(entry: &[u8], n: u16) -> bool
+    ensures { result ≡ entry_out n (entry_at 0 entry.now) }
 {
-    if HORIZON < words::load64(part, at) {
-        return true;
-    }
-    if n <= words::load16(part, at + 16) {
-        return true;
-    }
-    if source_out(n, words::load16(part, at + 18)) {
-        return true;
-    }
-    let kind = words::load32(part, at + 20);
-    let value = words::load32(part, at + 12);
-    let Meant::Means(_) = line::matter_of(n, kind as u64, value as u64) else {
-        return true;
-    };
-    false
+    let kind = words::load::<u32>(entry, 20);
+    let value = words::load::<u32>(entry, 12);
+    HORIZON < words::load::<u64>(entry, 0)
+        || n <= words::load::<u16>(entry, 16)
+        || source_out(n, words::load::<u16>(entry, 18))
+        || line::matter_of(n, kind as u64, value as u64).is_err()
 }
 
 // Does 19 refuse the part, of a line of n stations?
 pub fn part_out(part: &[u8], n: u16) -> bool
     ensures { result ≡ part_out n part.now }
 {
-    if part.len() % 24 != 0 {
-        return true;
-    }
-    let count = part.len() / 24;
-    let mut k = 0;
-    while k < count {
-        if entry_out(part, 24 * k, n) {
-            return true;
-        }
-        k += 1;
-    }
-    false
+    part.len() % 24 != 0 || part.chunks_exact(24).any(|entry| entry_out(entry, n))
 }
 
 // What an entry of that kind costs, where a reading and a frame cost so much.

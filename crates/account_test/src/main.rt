@@ -3,65 +3,41 @@
 
 #![tactic(auto)]
 
-use account::{AccountAnswer, ChargeAnswer};
 use refusal::Refusal;
 use std::io;
 
 // ---- a call and its line
 
-fn word(rt: &impl Print, text: &[u8]) -> io::Result<()> {
-    rt.write_all(text)
+fn no(rt: &impl Print, e: Refusal) -> io::Result<()> {
+    println!(rt; ": no {}", refusal::number(e))
 }
 
-fn number(rt: &impl Print, n: u64) -> io::Result<()> {
-    rt.write_all(b" ")?;
-    rt.print(n)
-}
-
-fn no(rt: &impl Print, r: Refusal) -> io::Result<()> {
-    word(rt, b": no")?;
-    number(rt, refusal::number(r))?;
-    word(rt, b"\n")
-}
-
-fn tell(rt: &impl Print, a: AccountAnswer) -> io::Result<()> {
-    match a {
-        AccountAnswer::Done => word(rt, b": ok\n"),
-        AccountAnswer::Refused(r) => no(rt, r),
+fn tell(rt: &impl Print, said: Result<(), Refusal>) -> io::Result<()> {
+    match said {
+        Ok(()) => println!(rt; ": ok"),
+        Err(e) => no(rt, e),
     }
 }
 
-fn tell_charge(rt: &impl Print, a: ChargeAnswer) -> io::Result<()> {
-    match a {
-        ChargeAnswer::Units(v) => {
-            word(rt, b":")?;
-            number(rt, v)?;
-            word(rt, b"\n")
-        }
-        ChargeAnswer::Refused(r) => no(rt, r),
+fn tell_charge(rt: &impl Print, said: Result<u64, Refusal>) -> io::Result<()> {
+    match said {
+        Ok(units) => println!(rt; ": {units}"),
+        Err(e) => no(rt, e),
     }
 }
 
 fn open(rt: &impl Print, n: u64, reading: u32, frame: u32, b: &mut [u8]) -> io::Result<()> {
-    word(rt, b"open")?;
-    number(rt, n)?;
-    number(rt, reading as u64)?;
-    number(rt, frame as u64)?;
-    number(rt, b.len() as u64)?;
+    print!(rt; "open {n} {reading} {frame} {}", b.len())?;
     tell(rt, account::open(n, reading, frame, b))
 }
 
 fn read(rt: &impl Print, b: &mut [u8], n: u64, part: &[u8]) -> io::Result<()> {
-    word(rt, b"read")?;
-    number(rt, n)?;
-    number(rt, part.len() as u64)?;
+    print!(rt; "read {n} {}", part.len())?;
     tell(rt, account::read(b, n, part))
 }
 
 fn charge(rt: &impl Print, b: &[u8], n: u64, station: u64) -> io::Result<()> {
-    word(rt, b"charge")?;
-    number(rt, n)?;
-    number(rt, station)?;
+    print!(rt; "charge {n} {station}")?;
     tell_charge(rt, account::charge(b, n, station))
 }
 
@@ -71,29 +47,20 @@ fn both(rt: &impl Print, b: &[u8]) -> io::Result<()> {
     charge(rt, b, 2, 1)
 }
 
-fn units(a: ChargeAnswer) -> u64 {
-    match a {
-        ChargeAnswer::Units(v) => v,
-        ChargeAnswer::Refused(_) => 0,
-    }
-}
-
 fn plus(x: u64, y: u64) -> u64 {
     x % 4294967296 + y % 4294967296
 }
 
 // What both come to, where each has 32 bits.
 fn sum(rt: &impl Print, b: &[u8]) -> io::Result<()> {
-    let x = units(account::charge(b, 2, 0));
-    let y = units(account::charge(b, 2, 1));
-    word(rt, b"sum")?;
-    number(rt, 2)?;
-    word(rt, b":")?;
-    number(rt, plus(x, y))?;
-    word(rt, b"\n")
+    let x = account::charge(b, 2, 0).unwrap_or(0);
+    let y = account::charge(b, 2, 1).unwrap_or(0);
+    println!(rt; "sum 2: {}", plus(x, y))
 }
 
 // ---- parts
+//
+// Kept: an entry's numbers in a row, in the order of its line; a struct written out at each call would be no plainer.
 
 fn lay(
     part: &mut [u8],
@@ -106,12 +73,12 @@ fn lay(
     value: u32,
 ) {
     let at = 24 * k as usize;
-    words::store64(part, at, time);
-    words::store32(part, at + 8, num);
-    words::store32(part, at + 12, value);
-    words::store16(part, at + 16, target);
-    words::store16(part, at + 18, source);
-    words::store32(part, at + 20, kind);
+    words::store::<u64>(part, at, time);
+    words::store::<u32>(part, at + 8, num);
+    words::store::<u32>(part, at + 12, value);
+    words::store::<u16>(part, at + 16, target);
+    words::store::<u16>(part, at + 18, source);
+    words::store::<u32>(part, at + 20, kind);
 }
 
 fn entry(
@@ -125,15 +92,7 @@ fn entry(
     num: u32,
     value: u32,
 ) -> io::Result<()> {
-    word(rt, b"entry")?;
-    number(rt, k as u64)?;
-    number(rt, time)?;
-    number(rt, target as u64)?;
-    number(rt, kind as u64)?;
-    number(rt, source as u64)?;
-    number(rt, num as u64)?;
-    number(rt, value as u64)?;
-    word(rt, b"\n")?;
+    println!(rt; "entry {k} {time} {target} {kind} {source} {num} {value}")?;
     lay(part, k, time, target, kind, source, num, value);
     Ok(())
 }
@@ -369,11 +328,8 @@ fn widest(rt: &impl Print) -> io::Result<()> {
 
 // An account is handed over with that charge.
 fn put(rt: &impl Print, b: &mut [u8], station: u8, units: u64) -> io::Result<()> {
-    word(rt, b"put")?;
-    number(rt, station as u64)?;
-    number(rt, units)?;
-    word(rt, b"\n")?;
-    words::store64(b, 8 + 8 * station as usize, units);
+    println!(rt; "put {station} {units}")?;
+    words::store::<u64>(b, 8 + 8 * station as usize, units);
     Ok(())
 }
 
@@ -455,17 +411,11 @@ fn sum_over_64_bits(rt: &impl Print) -> io::Result<()> {
 
 // ---- the bytes after an account
 
-fn wide(x: u8) -> u64 {
-    x as u64
-}
-
 fn beyond(rt: &impl Print) -> io::Result<()> {
     let mut b = [165u8; 34];
     open(rt, 2, 4294967295, 4294967295, &mut b)?;
     one_of_two(rt, &mut b, 0, 1, 1, 65535, 0)?;
-    number(rt, wide(b[24]))?;
-    number(rt, wide(b[33]))?;
-    word(rt, b"\n")
+    println!(rt; " {} {}", b[24], b[33])
 }
 
 fn main(rt: HostRuntime) -> io::Result<()> {

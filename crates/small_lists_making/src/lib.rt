@@ -1,4 +1,6 @@
 // The calls of the small lists on an engine, by their numbers: what a logger is held against. What is answered goes into a lent text, as the bench prints it.
+//
+// Kept: the text is fixed memory, so how many of its bytes are to be printed stands beside it, as bench_answers answers it.
 
 #![tactic(auto)]
 

@@ -3,49 +3,32 @@
 
 #![tactic(auto)]
 
-use small_lists::ListsAnswer;
 use std::io;
-
-fn word(rt: &impl Print, text: &[u8]) -> io::Result<()> {
-    rt.write_all(text)
-}
-
-fn wide(x: u8) -> u64 {
-    x as u64
-}
 
 // ---- a call
 
 // Its command; an unused place has none.
 fn ask(rt: &impl Print, number: u8) -> io::Result<()> {
     match number {
-        0 => word(rt, b" | run: "),
-        1 => word(rt, b" | run 0: "),
-        2 => word(rt, b" | run 1: "),
-        3 => word(rt, b" | post 1 0 1 0: "),
-        4 => word(rt, b" | post 1 30 1 0: "),
-        5 => word(rt, b" | retract 0: "),
-        6 => word(rt, b" | commit 31: "),
-        _ => word(rt, b""),
+        0 => print!(rt; " | run: "),
+        1 => print!(rt; " | run 0: "),
+        2 => print!(rt; " | run 1: "),
+        3 => print!(rt; " | post 1 0 1 0: "),
+        4 => print!(rt; " | post 1 30 1 0: "),
+        5 => print!(rt; " | retract 0: "),
+        6 => print!(rt; " | commit 31: "),
+        _ => Ok(()),
     }
 }
 
-// A byte of its answer's lines, with a stroke for the end of one that is not the last.
-fn tell_byte(rt: &impl Print, x: u8, last: bool) -> io::Result<()> {
-    let one = [x];
-    if x != 10 {
-        word(rt, &one)?;
-    } else if !last {
-        word(rt, b" / ")?;
-    }
-    Ok(())
-}
-
+// Its answer's lines, with a stroke for the end of each that is not the last.
 fn tell(rt: &impl Print, lines: &[u8]) -> io::Result<()> {
-    let mut i = 0;
-    while i < lines.len() {
-        tell_byte(rt, lines[i], i + 1 == lines.len())?;
-        i += 1;
+    for (i, x) in lines.iter().enumerate() {
+        if *x != b'\n' {
+            rt.write_all(&[*x])?;
+        } else if i + 1 < lines.len() {
+            print!(rt; " / ")?;
+        }
     }
     Ok(())
 }
@@ -67,11 +50,6 @@ fn call(rt: &impl Print, b: &mut [u8], number: u8) -> io::Result<()> {
 
 // ---- a list
 
-fn number(rt: &impl Print, n: u8) -> io::Result<()> {
-    rt.print(wide(n))?;
-    word(rt, b" ")
-}
-
 // The buffer is the same for all lists: an opening does not depend on what it held.
 fn list(
     rt: &impl Print,
@@ -81,33 +59,20 @@ fn list(
     second: u8,
     third: u8,
 ) -> io::Result<()> {
-    number(rt, length)?;
-    number(rt, first)?;
-    number(rt, second)?;
-    rt.print(wide(third))?;
+    print!(rt; "{length} {first} {second} {third}")?;
     let mut text = [0u8; 6240];
     let n = small_lists_making::open(b, &mut text);
     put(rt, &text, n)?;
     call(rt, b, first)?;
     call(rt, b, second)?;
     call(rt, b, third)?;
-    word(rt, b"\n")
+    println!(rt)
 }
 
 fn all(rt: &impl Print, lists: &[u8; 1600]) -> io::Result<()> {
     let mut b = [0u8; 57344];
-    let mut i = 0;
-    while i < 400 {
-        let at = 4 * i;
-        list(
-            rt,
-            &mut b,
-            lists[at],
-            lists[at + 1],
-            lists[at + 2],
-            lists[at + 3],
-        )?;
-        i += 1;
+    for four in lists.chunks_exact(4) {
+        list(rt, &mut b, four[0], four[1], four[2], four[3])?;
     }
     Ok(())
 }
@@ -115,7 +80,7 @@ fn all(rt: &impl Print, lists: &[u8; 1600]) -> io::Result<()> {
 fn main(rt: HostRuntime) -> io::Result<()> {
     let mut lists = [0u8; 1600];
     match small_lists::write(&mut lists) {
-        ListsAnswer::Done => all(&rt, &lists),
-        ListsAnswer::Refused(_) => word(&rt, b"no 18\n"),
+        Ok(()) => all(&rt, &lists),
+        Err(_) => println!(&rt; "no 18"),
     }
 }

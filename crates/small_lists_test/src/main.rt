@@ -3,29 +3,15 @@
 
 #![tactic(auto)]
 
-use small_lists::ListsAnswer;
+ghost use Rattle.std.specs.Prelude.{◌≤◌, length};
+
+use refusal::Refusal;
 use std::io;
 
-fn word(rt: &impl Print, text: &[u8]) -> io::Result<()> {
-    rt.write_all(text)
-}
-
-fn number(rt: &impl Print, n: u64) -> io::Result<()> {
-    rt.print(n)
-}
-
-fn wide(x: u8) -> u64 {
-    x as u64
-}
-
-fn tell(rt: &impl Print, a: ListsAnswer) -> io::Result<()> {
-    match a {
-        ListsAnswer::Done => word(rt, b": ok, "),
-        ListsAnswer::Refused(e) => {
-            word(rt, b": no ")?;
-            number(rt, refusal::number(e))?;
-            word(rt, b", ")
-        }
+fn tell(rt: &impl Print, said: Result<(), Refusal>) -> io::Result<()> {
+    match said {
+        Ok(()) => print!(rt; ": ok, "),
+        Err(e) => print!(rt; ": no {}, ", refusal::number(e)),
     }
 }
 
@@ -36,26 +22,13 @@ struct Totals {
     sum: u64,
 }
 
-// One byte more. The sums stay far below the modulus, which is there for the prover alone.
-fn with(t: Totals, x: u8) -> Totals {
-    let sum = t.sum % 1000000 + x as u64;
-    if x == 165 {
-        return Totals {
-            same: t.same % 1000000 + 1,
-            sum,
-        };
+fn total(out: &[u8]) -> Totals
+    requires { length out.now ≤ 1700 }
+{
+    Totals {
+        same: out.iter().filter(|x| **x == 165).count() as u64,
+        sum: out.iter().map(|x| u64::from(*x)).sum(),
     }
-    Totals { same: t.same, sum }
-}
-
-fn total(out: &[u8; 1700]) -> Totals {
-    let mut t = Totals { same: 0, sum: 0 };
-    let mut i = 0;
-    while i < 1700 {
-        t = with(t, out[i]);
-        i += 1;
-    }
-    t
 }
 
 fn write(rt: &impl Print, out: &mut [u8], length: usize) -> io::Result<()> {
@@ -67,38 +40,30 @@ fn write(rt: &impl Print, out: &mut [u8], length: usize) -> io::Result<()> {
 
 fn output(rt: &impl Print, length: u16) -> io::Result<()> {
     let mut out = [165u8; 1700];
-    word(rt, b"write ")?;
-    number(rt, length as u64)?;
+    print!(rt; "write {length}")?;
     write(rt, &mut out, length as usize)?;
     let t = total(&out);
-    number(rt, t.same)?;
-    word(rt, b" as they were, sum ")?;
-    number(rt, t.sum)?;
-    word(rt, b"\n")
+    println!(rt; "{} as they were, sum {}", t.same, t.sum)
 }
 
 // List k of the output.
 fn list(rt: &impl Print, out: &[u8; 1700], k: u16) -> io::Result<()> {
     if k < 425 {
         let at = 4 * k as usize;
-        word(rt, b"list ")?;
-        number(rt, k as u64)?;
-        word(rt, b": ")?;
-        number(rt, wide(out[at]))?;
-        word(rt, b" ")?;
-        number(rt, wide(out[at + 1]))?;
-        word(rt, b" ")?;
-        number(rt, wide(out[at + 2]))?;
-        word(rt, b" ")?;
-        number(rt, wide(out[at + 3]))?;
-        word(rt, b"\n")?;
+        println!(rt;
+            "list {k}: {} {} {} {}",
+            out[at],
+            out[at + 1],
+            out[at + 2],
+            out[at + 3]
+        )?;
     }
     Ok(())
 }
 
 fn lists(rt: &impl Print) -> io::Result<()> {
     let mut out = [165u8; 1700];
-    small_lists::write(&mut out);
+    let _ = small_lists::write(&mut out);
     list(rt, &out, 0)?;
     list(rt, &out, 1)?;
     list(rt, &out, 7)?;

@@ -2,64 +2,40 @@
 
 #![tactic(auto)]
 
-use engine::{CommitAnswer, OpenAnswer, RecordAnswer};
 use std::io;
 use std::rt::Files;
 
 // One reading at time 0 for each station other than 0.
 fn post_readings(b: &mut [u8], stations: u64) {
-    let mut s: u64 = 1;
-    while s < stations {
-        engine::post(b, s, 0, 1, 0);
-        s += 1;
-    }
-}
-
-fn commits(b: &mut [u8], c: u64, out: &mut [u8]) -> bool {
-    match engine::commit(b, c, out) {
-        CommitAnswer::Done { count: _ } => true,
-        CommitAnswer::Refused(_) => false,
-    }
-}
-
-// So many events are run.
-fn run_some(b: &mut [u8], events: u64) {
-    let mut k: u64 = 0;
-    while k < events {
-        engine::run_lowest(b);
-        k += 1;
+    for s in 1..stations {
+        let _ = engine::post(b, s, 0, 1, 0);
     }
 }
 
 // Runs the lowest until the commit at c is accepted. Some that are run come after c; the log and the record do not show them.
 fn run_to(b: &mut [u8], c: u64, out: &mut [u8]) {
-    let mut turns: u64 = 64;
-    while turns > 0 {
-        if commits(b, c, out) {
+    for _ in 0..64 {
+        if engine::commit(b, c, out).is_ok() {
             return;
         }
-        run_some(b, 16);
-        turns -= 1;
+        for _ in 0..16 {
+            let _ = engine::run_lowest(b);
+        }
     }
 }
 
 // A commit at each of so many times, a step apart.
 fn run_by(b: &mut [u8], steps: u32, step: u32, out: &mut [u8]) {
-    let mut k: u32 = 0;
-    let mut time: u64 = 0;
-    while k < steps {
-        run_to(b, time, out);
-        time += step as u64;
-        k += 1;
+    for k in 0..steps {
+        run_to(b, k as u64 * step as u64, out);
     }
 }
 
 fn say_heard(rt: &impl Print, b: &[u8]) -> io::Result<()> {
-    let RecordAnswer::Done(s) = engine::record(b, 0) else {
-        return Ok(());
-    };
-    rt.print(s.heard as u64)?;
-    rt.write_all(b" ")
+    match engine::record(b, 0) {
+        Ok(state) => print!(rt; "{} ", state.heard),
+        Err(_) => Ok(()),
+    }
 }
 
 fn say_tariff(rt: &impl Print, plan: &[u8], c: u64) -> io::Result<()> {
@@ -70,13 +46,12 @@ fn say_tariff(rt: &impl Print, plan: &[u8], c: u64) -> io::Result<()> {
 
 // The line of a plan of so many stations is run to c, with commits on the way.
 fn run_star(plan: &[u8], b: &mut [u8], stations: u64, steps: u32, step: u32, c: u64) {
-    let OpenAnswer::Done = engine::open(plan, 16, 64, 1024, b) else {
-        return;
-    };
-    let mut out = [0u8; 24576];
-    post_readings(b, stations);
-    run_by(b, steps, step, &mut out);
-    run_to(b, c, &mut out);
+    if engine::open(plan, 16, 64, 1024, b).is_ok() {
+        let mut out = [0u8; 24576];
+        post_readings(b, stations);
+        run_by(b, steps, step, &mut out);
+        run_to(b, c, &mut out);
+    }
 }
 
 fn show(

@@ -8,10 +8,8 @@ use std::rt::Files;
 
 // So many lines for one plan. Each call reads one and leaves the rest.
 fn ask(rt: &(impl Files + Input + Print), path: &[u8], lines: u64) -> io::Result<()> {
-    let mut k: u64 = 0;
-    while k < lines {
+    for _ in 0..lines {
         tariff_console::serve(rt, path)?;
-        k += 1;
     }
     Ok(())
 }

@@ -5,10 +5,10 @@ use native.Mathlib.Omega.{arith}
 use mathlib.Core.Path.{◌≡◌, sym, ap, subst, ◌∙◌}
 use mathlib.Core.List.{List}
 use borrow.Author.Tests.{le-leb, lt-leb}
+use Rattle.std.specs.Prelude.{Ok}
 use Rattle.words.specs.Sums.{sum_to}
 use Rattle.line.specs.declared.Config.{Config}
 use Rattle.line.proofs.Fits.{fits}
-use Rattle.plan_format.specs.declared.ReadAnswer.TheVariants.{Stations}
 use Rattle.plan_format.specs.Line.{line_of}
 use Rattle.plan_format.specs.Plan.{offset_of, config_at, station_at}
 use Rattle.plan_format.specs.Reading.{judging}
@@ -31,7 +31,7 @@ share_most x b h = omega (arith, div-le_self x b)
 
 -- ---- the stations of an accepted plan
 
-module _ (plan : List ℕ) (n : ℕ) (e : judging plan ≡ Stations n) where
+module _ (plan : List ℕ) (n : ℕ) (e : judging plan ≡ Ok n) where
   pub few : (1 ≤ n) × (n ≤ 256)
   few = let a = accepted plan n e in (a.some, a.most)
 
@@ -55,6 +55,6 @@ sum_next plan c (suc k) {total} {r} {g} h e f q =
     let d : r ≡ share ((line_of plan).config (suc k)) c = q ∙ ap (λ (x : Config). share x c) (config_is plan (suc k) f) in
     rw (a, e, b, d)
 
-pub sum_all : (plan : List ℕ) (n c : ℕ) {s total : ℕ} → judging plan ≡ Stations n → s ≡ n → total ≡ sum_before plan c s → total ≡ tariff (line_of plan) c
+pub sum_all : (plan : List ℕ) (n c : ℕ) {s total : ℕ} → judging plan ≡ Ok n → s ≡ n → total ≡ sum_before plan c s → total ≡ tariff (line_of plan) c
 unfolding tariff line_of
 sum_all plan n c e q h = h ∙ ap (λ (m : ℕ). sum_to (m - 1) (λ k. share (station_at plan (suc k)).config c)) (q ∙ (accepted plan n e).counted)

@@ -4,31 +4,29 @@ use mathlib.Core.List.{List, [], ◌++◌}
 use Prim.Native.Nat.{ℕ, ◌≤◌}
 use native.Mathlib.Omega.{arith}
 use lib.ListN.{length, length-append}
-use Rattle.bench_command.specs.Decimal.{decimal}
-use Rattle.bench_parsing.specs.declared.Number.{Number}
-use Rattle.bench_parsing.specs.declared.Number.TheVariants.{Value, Absent}
-use Rattle.bench_parsing.specs.Promises.{Lasts}
-use Rattle.bench_parsing.proofs.Inverse.{one_decimal}
-use Rattle.bench_printing.proofs.Backward.{at_most_20}
-use Rattle.tariff_answers.specs.declared.TariffAnswer.{TariffAnswer}
-use Rattle.tariff_answers.specs.declared.TariffAnswer.TheVariants.{No}
+use Rattle.std.specs.Prelude.{Option, Some, None}
+use Rattle.text.specs.Decimal.{decimal}
+use Rattle.text.proofs.Places.{at_most_20}
+use Rattle.text_reading.specs.declared.Number.{Number}
+use Rattle.text_reading.specs.Promises.{Lasts}
+use Rattle.text_reading.proofs.Inverse.{one_decimal}
 use Rattle.tariff.specs.Tariff.{tariff_of}
 use Rattle.tariff_console.specs.Promises.{TellsTariff}
 
-module _ (plan line : List ℕ) {n : Number} (l : Lasts [] line 0 n) where
-  pub no_number : n ≡ Absent → TellsTariff plan line No
+module _ (plan line : List ℕ) {n : Option Number} (l : Lasts [] line 0 n) where
+  pub no_number : n ≡ None → TellsTariff plan line None
   no_number e = record { number = λ c f q. absurd (l.absent e c f q); other = λ h. refl }
 
-  pub a_number : {c next : ℕ} → n ≡ Value c next → {r : TariffAnswer} → r ≡ tariff_of plan c → TellsTariff plan line r
-  a_number {c} {next} e h =
-      let a = l.found c next e in
+  pub a_number : (m : Number) → n ≡ Some m → {r : Option ℕ} → r ≡ tariff_of plan m.value → TellsTariff plan line r
+  a_number m e h =
+      let a = l.found m e in
       record {
-        number = λ d f q. h ∙ ap (tariff_of plan) (one_decimal c d a.0 f (sym a.1 ∙ q));
-        other = λ none. absurd (none c a.0 a.1);
+        number = λ d f q. h ∙ ap (tariff_of plan) (one_decimal m.value d a.0 f (sym a.1 ∙ q));
+        other = λ none. absurd (none m.value a.0 a.1);
       }
 
 -- a line of 21 bytes or more is no number, so what is told of its front is told of the line
-pub front_tells : (plan front rest : List ℕ) {r : TariffAnswer} → 21 ≤ length front → TellsTariff plan front r → TellsTariff plan (front ++ rest) r
+pub front_tells : (plan front rest : List ℕ) {r : Option ℕ} → 21 ≤ length front → TellsTariff plan front r → TellsTariff plan (front ++ rest) r
 front_tells plan front rest {r} h t = record { number = λ c f e. absurd (too_long c e); other = λ _. t.other (λ c f e. short c e) }
   where
     short : (c : ℕ) → front ≡ decimal c → ⊥

@@ -4,23 +4,20 @@
 
 ghost use Rattle.tariff_console.specs.Promises.{TellsTariff, RepliesTariff};
 
-use bench_parsing::Number;
 use std::io;
 use std::io::Input;
 use std::rt::Files;
-use tariff_answers::TariffAnswer;
 
 // The tariff at the commit time that a line says, without the byte that ends it.
-fn tell(plan: &[u8], line: &[u8]) -> TariffAnswer
+fn tell(plan: &[u8], line: &[u8]) -> Option<u64>
     ensures { TellsTariff plan.now line.now result }
 {
-    let Number::Value(c, _) = bench_parsing::sole_number(line) else {
-        return TariffAnswer::No;
-    };
-    tariff::at(plan, c)
+    let number = text_reading::sole_number(line)?;
+    tariff::at(plan, number.value)
 }
 
 // The line that is printed for it, into a text of 96 bytes or more; answers its length.
+// Kept: the text is fixed memory that the line is written into, so its length stands beside it.
 pub fn reply(plan: &[u8], line: &[u8], text: &mut [u8]) -> usize
     ensures { RepliesTariff plan.now line.now text.old result text.new }
 {

@@ -31,4 +31,4 @@ pub returns : goal.returns
 unfolding charge_of
 returns c =
     let args = c.args in
-    reads_charge _ _ _ _ (rw (← c.space_out.ensures, c.if-space_out.false, lt-leb args.n args.station (omega (arith, c.if-n-station.false)), c.load64.ensures))
+    reads_charge _ _ _ _ (rw (← c.space_out.ensures, c.if-space_out.false, lt-leb args.n args.station (omega (arith, c.if-n-station.false)), c.load.ensures))

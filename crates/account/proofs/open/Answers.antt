@@ -12,9 +12,9 @@ pub clear_charges-requires : goal.clear_charges-requires
 clear_charges-requires c =
     let args = c.args in
     let r = room args.n (length args.b.now) (sym c.space_out.ensures ∙ c.if-space_out.false) in
-    (omega (arith, r.long, c.store32.auto.b, c.store32-2.auto.b), omega (arith, r.few))
+    (omega (arith, r.long, c.store.auto.b, c.store-2.auto.b), omega (arith, r.few))
 
 pub returns : goal.returns
 returns c =
-    open_done _ _ _ _ _ _ _ (sym c.space_out.ensures ∙ c.if-space_out.false) (omega arith) (omega arith) c.store32.ensures
-    c.store32-2.ensures c.clear_charges.ensures
+    open_done _ _ _ _ _ _ _ (sym c.space_out.ensures ∙ c.if-space_out.false) (omega arith) (omega arith) c.store.ensures
+    c.store-2.ensures c.clear_charges.ensures

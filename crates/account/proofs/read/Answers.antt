@@ -1,16 +1,19 @@
 -- The judgement's refusal, or the costs that it finds, stored.
+use Rattle.std.proofs.lemmas.Result.{err_from_is_err_and}
 use Rattle.account.proofs.Answers.{room_taken, read_refused, read_done}
 use Rattle.account.proofs.read.Goals as goal
 
+pub returns-in_err-costs : goal.returns-in_err-costs
+returns-in_err-costs c =
+    let p = err_from_is_err_and c.from_residual.result c.from_residual.ensures.1 in
+    rw (p.1, p.2) (read_refused _ _ _ _ c.judge_part.ensures _ c.in_err-costs.was)
+
 pub store_costs-requires : goal.store_costs-requires
 store_costs-requires c =
-    let judged = c.judge_part-r.ensures in
-    let r = room_taken _ _ _ _ _ judged c.in-Done.is in
-    (r.long, (r.few, (judged.words, judged.fits c.in-Done.is)))
+    let judged = c.judge_part.ensures in
+    let r = room_taken _ _ _ _ judged _ c.in_ok-costs.was in
+    let k = judged.fits _ c.in_ok-costs.was in
+    (r.long, (r.few, (k.words, k.fits)))
 
-pub returns-in-Refused : goal.returns-in-Refused
-returns-in-Refused c = read_refused _ _ _ _ _ c.judge_part-r.ensures _ c.in-Refused.is
-
-pub returns-in-Done : goal.returns-in-Done
-returns-in-Done c =
-    read_done _ _ _ _ _ c.judge_part-r.ensures c.in-Done.is _ c.store_costs.ensures
+pub returns : goal.returns
+returns c = read_done _ _ _ _ c.judge_part.ensures _ c.in_ok-costs.was _ c.store_costs.ensures

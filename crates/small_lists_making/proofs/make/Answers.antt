@@ -1,6 +1,5 @@
 -- The command of the number is obeyed, or there is none.
 use native.Mathlib.Omega.{arith}
-use borrow.Author.Rules.{rules}
 use Rattle.small_lists_making.proofs.Making.{makes, makes_none}
 use Rattle.small_lists_making.proofs.make.Goals as goal
 

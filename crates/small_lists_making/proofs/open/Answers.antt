@@ -1,5 +1,4 @@
 -- The bytes are those of the two stations' plan.
-use borrow.Author.Rules.{rules}
 use Rattle.words.specs.Le.{bytes_of}
 use Rattle.plan_format.specs.Writing.{record_bytes, pairs_of, records_of, plan_of}
 use Rattle.small_lists_making.specs.Plan.{bench_plan}

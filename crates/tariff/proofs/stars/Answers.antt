@@ -1,30 +1,19 @@
--- Each station below s is a star's.
+-- Each station below n is tested.
+use mathlib.Core.Path.{refl, ◌∙◌}
 use native.Mathlib.Omega.{arith}
-use mathlib.Core.Path.{◌≡◌, sym, ◌∙◌}
-use borrow.Author.Tests.{not-true, not-false}
+use borrow.Author.Rules.{rules}
+use borrow.Author.Tests.{tests}
+use Rattle.std.proofs.lemmas.Iterator.{YieldsList-from_range}
+use Rattle.std.proofs.lemmas.Iterator.Search.{all_from_yields_List}
 use Rattle.plan_format.specs.Line.{line_of}
+use Rattle.plan_format.specs.Plan.{station_at}
 use Rattle.tariff.specs.Star.{star_at}
-use Rattle.tariff.proofs.Checking.{star_none, star_next, star_all, star_broken, star_is}
+use Rattle.tariff.proofs.Checking.{star_all}
 use Rattle.tariff.proofs.stars.Goals as goal
 
-pub loop-s-init : goal.loop-s-init
-loop-s-init c = (omega arith, star_none _)
-
-pub returns-then-not-star_at : goal.returns-then-not-star_at
-returns-then-not-star_at c =
-    let station : star_at ((line_of c.args.plan.now).config c.loop-s.s) ≡ c.star_at.result = star_is _ c.loop-s.s c.config_at.ensures c.star_at.ensures in
-    sym (star_broken _ _ _ (omega arith) (station ∙ not-true _ c.if-not-star_at.true-raw))
-
-pub loop-s-preserved : goal.loop-s-preserved
-loop-s-preserved c =
-    let station : star_at ((line_of c.args.plan.now).config c.loop-s.s) ≡ c.star_at.result = star_is _ c.loop-s.s c.config_at.ensures c.star_at.ensures in
-    (omega arith, star_next _ _ c.loop-s.invariant.1 (station ∙ not-false _ c.if-not-star_at.false-raw))
-
 pub returns : goal.returns
-returns c = star_all _ c.loop-s.invariant.1 (omega arith)
-
-pub overflow_add-s : goal.overflow_add-s
-overflow_add-s c = omega arith
-
-pub loop-s-smaller : goal.loop-s-smaller
-loop-s-smaller c = omega arith
+unfolding line_of station_at
+returns c =
+    let config = (line_of c.args.plan.now).config in
+    all_from_yields_List (λ s. star_at (config s)) _ _ c.all.result c.all.ensures.ran (YieldsList-from_range 0 c.args.n c.args.n refl (omega arith)) (λ x b q k. search (rules, tests))
+    ∙ star_all config c.args.n

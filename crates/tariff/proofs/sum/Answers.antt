@@ -4,11 +4,8 @@ use mathlib.Core.Path.{refl}
 use Rattle.tariff.proofs.Summing.{few, calm_some, sum_next, sum_all}
 use Rattle.tariff.proofs.sum.Goals as goal
 
-pub overflow_sub-last : goal.overflow_sub-last
-overflow_sub-last c = let m = few _ _ c.requires.0 in omega arith
-
 pub loop-s-init : goal.loop-s-init
-loop-s-init c = let m = few _ _ c.requires.0 in (omega arith, omega arith, omega arith, refl)
+loop-s-init c = (omega arith, omega arith, refl)
 
 pub share-total-requires : goal.share-total-requires
 share-total-requires c = (calm_some _ _ c.requires.0 c.loop-s.s (omega arith) c.config_at.ensures, omega arith)
@@ -18,13 +15,7 @@ overflow_add-total c = let m = few _ _ c.requires.0 in omega arith
 
 pub loop-s-preserved : goal.loop-s-preserved
 loop-s-preserved c =
-    (omega arith, omega arith, omega arith, sum_next _ _ c.loop-s.s c.loop-s.invariant.0 c.loop-s.invariant.3 c.config_at.ensures c.share-total.ensures.0)
+    (omega arith, omega arith, sum_next _ _ c.loop-s.s c.loop-s.invariant.0 c.loop-s.invariant.2 c.config_at.ensures c.share-total.ensures.0)
 
 pub returns : goal.returns
-returns c = sum_all _ _ _ {s = c.loop-s.s} c.requires.0 (omega arith) c.loop-s.invariant.3
-
-pub overflow_add-s : goal.overflow_add-s
-overflow_add-s c = omega arith
-
-pub loop-s-smaller : goal.loop-s-smaller
-loop-s-smaller c = omega arith
+returns c = let m = few _ _ c.requires.0 in sum_all _ _ _ {s = c.loop-s.s} c.requires.0 (omega arith) c.loop-s.invariant.2

@@ -1,5 +1,4 @@
 -- What is told, and its line.
-use borrow.Author.Rules.{rules}
 use Rattle.tariff_console.proofs.reply.Goals as goal
 
 pub returns : goal.returns
