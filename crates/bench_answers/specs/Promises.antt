@@ -1,11 +1,10 @@
 -- What the bench's calls promise: what is done to the engine's buffer, xs at entry and ys at exit, and which lines are printed.
-use Rattle.std.specs.Prelude.{◌≡◌, List, ◌++◌, ℕ, ◌≤◌, ◌<◌, length, drop}
+use Rattle.std.specs.Prelude.{◌≡◌, List, ◌++◌, ℕ, ◌≤◌, ◌<◌, length, drop, Result}
+use Rattle.refusal.specs.declared.Refusal.{Refusal}
 use Rattle.rules.specs.Engine.{Answer}
-use Rattle.engine_answers.specs.declared.OpenAnswer.{OpenAnswer}
 use Rattle.engine_promises.specs.Promises.{Opens, Answered}
 use Rattle.bench_command.specs.declared.Command.{Command}
-use Rattle.bench_command.specs.declared.Output.TheVariants.{No}
-use Rattle.bench_command.specs.Lines.{command_line, FitsAll, output_of}
+use Rattle.bench_command.specs.Lines.{command_line, FitsAll, no_line}
 use Rattle.bench_answers.specs.Shown.{call_of, lines_of, open_lines}
 
 -- the lines stand at the front of the lent text, nothing else of it is changed, and r is where they end
@@ -25,7 +24,7 @@ pub record InText (done : List ℕ → Type 0) (xs before : List ℕ) (r : ℕ) 
 
 -- "The bench program keeps arity 16" (document 02, change 9); "w is 64, capacity 64"; "a refused plan or opening prints that and nothing more"
 pub record OpensBench (plan xs ys printed : List ℕ) : Type 0 where
-  pub answer : OpenAnswer
+  pub answer : Result Unit Refusal
   pub opens : Opens plan 16 64 64 xs answer ys
   pub lines : printed ≡ open_lines answer
 
@@ -42,4 +41,4 @@ pub record Obeyed (c : Command) (xs ys printed : List ℕ) : Type 0 where
 -- a line is a command's, or is refused with 8 and changes nothing
 pub data Replied (line xs : List ℕ) : List ℕ → List ℕ → Type 0 where
   obeyed : {ys printed : List ℕ} (c : Command) → FitsAll c → line ≡ command_line c → Obeyed c xs ys printed → Replied line xs ys printed
-  unread : ((c : Command) → FitsAll c → line ≡ command_line c → ⊥) → Replied line xs xs (output_of (No 8))
+  unread : ((c : Command) → FitsAll c → line ≡ command_line c → ⊥) → Replied line xs xs (no_line 8)

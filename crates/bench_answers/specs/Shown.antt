@@ -1,14 +1,13 @@
 -- What the bench asks of the engine, and what it prints of each answer (document 01, "Bench program").
-use Rattle.std.specs.Prelude.{List, [], ◌++◌, ℕ, zero, suc, ◌*◌, min}
+use Rattle.std.specs.Prelude.{List, [], ◌++◌, ℕ, zero, suc, ◌*◌, min, Result, Ok, Err}
+use Rattle.refusal.specs.declared.Refusal.{Refusal}
 use Rattle.refusal.specs.Numbers.{number_of}
 use Rattle.rules.specs.Engine.{Call, Post, Retract, RunStation, RunLowest, Commit, Answer, Refused, Posted, Retracted, Ran, RanLowest, Committed, Recorded}
 use Rattle.entry.specs.Entry.{event_at}
-use Rattle.engine_answers.specs.declared.OpenAnswer.{OpenAnswer}
-use Rattle.engine_answers.specs.declared.OpenAnswer.TheVariants as Open
 use Rattle.bench_command.specs.declared.Command.{Command}
 use Rattle.bench_command.specs.declared.Command.TheVariants as Line
 use Rattle.bench_command.specs.declared.Output.TheVariants as Out
-use Rattle.bench_command.specs.Lines.{output_of, entry_line}
+use Rattle.bench_command.specs.Lines.{output_of, no_line, entry_line}
 
 -- the call of a command, with the output that a commit is lent
 abbrev pub call_of : Command → List ℕ → Call
@@ -27,7 +26,7 @@ entry_lines (suc k) output = entry_lines k output ++ entry_line (event_at (24 * 
 -- NUMBER"". The output of 1536 bytes has 64 entries; a commit of more is refused, and no command asks for a record. Of a run lowest "The bench program
 -- doesn't print" the count of bitmap words read (document 02, change 5)
 unfoldable pub lines_of : Answer → List ℕ
-lines_of (Refused n) = output_of (Out.No n)
+lines_of (Refused n) = no_line n
 lines_of (Posted number undone) = output_of (Out.Post number undone)
 lines_of (Retracted undone) = output_of (Out.Retract undone)
 lines_of (Ran station undone) = output_of (Out.Run station undone)
@@ -36,6 +35,6 @@ lines_of (Committed count output) = entry_lines (min count 64) output ++ output_
 lines_of (Recorded state) = []
 
 -- "a refused plan or opening prints that and nothing more"
-unfoldable pub open_lines : OpenAnswer → List ℕ
-open_lines Open.Done = []
-open_lines (Open.Refused e) = output_of (Out.No (number_of e))
+unfoldable pub open_lines : Result Unit Refusal → List ℕ
+open_lines (Ok done) = []
+open_lines (Err e) = no_line (number_of e)

@@ -1,15 +1,15 @@
 -- The command lines, and the lines of the answers (document 01, "Bench program").
-use Rattle.std.specs.Prelude.{List, [], ◌∷◌, ◌++◌, ℕ}
+use Rattle.std.specs.Prelude.{List, [], ◌∷◌, ◌++◌, ℕ, Result, Ok, Err}
+use Rattle.refusal.specs.declared.Refusal.{Refusal}
 use Rattle.refusal.specs.Numbers.{number_of}
 use Rattle.line.specs.declared.Event.{Event}
 use Rattle.line.specs.Matter.{kind_of, value_of}
+use Rattle.text.specs.Decimal.{decimal, Fits}
+use Rattle.text.specs.Spaced.{spaced}
 use Rattle.bench_command.specs.declared.Command.{Command}
 use Rattle.bench_command.specs.declared.Command.TheVariants.{Post, Retract, Run, RunStation, Commit}
-use Rattle.bench_command.specs.declared.Parsed.{Parsed}
-use Rattle.bench_command.specs.declared.Parsed.TheVariants.{Is, Refused}
 use Rattle.bench_command.specs.declared.Output.{Output}
 use Rattle.bench_command.specs.declared.Output.TheVariants as Out
-use Rattle.bench_command.specs.Decimal.{decimal, Fits}
 
 -- the words, in ASCII
 abbrev pub post_word : List ℕ
@@ -26,11 +26,6 @@ commit_word = 99 ∷ 111 ∷ 109 ∷ 109 ∷ 105 ∷ 116 ∷ []
 
 abbrev pub no_word : List ℕ
 no_word = 110 ∷ 111 ∷ []
-
--- numbers after a word, each after one space
-unfoldable pub spaced : List ℕ → List ℕ → List ℕ
-spaced word [] = word
-spaced word (n ∷ ns) = spaced (word ++ (32 ∷ decimal n)) ns
 
 -- "post STATION TIME KIND VALUE", "retract NUMBER", "run", "run STATION", "commit TIME"
 unfoldable pub command_line : Command → List ℕ
@@ -53,17 +48,25 @@ pub data LineSaid : Type 0 where
   Asks : Command → LineSaid
   Refuses : ℕ → LineSaid
 
-abbrev pub parsed_said : Parsed → LineSaid
-parsed_said (Is c) = Asks c
-parsed_said (Refused e) = Refuses (number_of e)
+abbrev pub parsed_said : Result Command Refusal → LineSaid
+parsed_said (Ok c) = Asks c
+parsed_said (Err e) = Refuses (number_of e)
 
--- "post: number, undone; run: station, undone; retract: undone; commit: .. its count"; "A refusal prints "no NUMBER""; each a line
+-- "post: number, undone; run: station, undone; retract: undone; commit: .. its count"; each a line
 unfoldable pub output_of : Output → List ℕ
 output_of (Out.Post number undone) = spaced post_word (number ∷ undone ∷ []) ++ 10 ∷ []
 output_of (Out.Retract undone) = spaced retract_word (undone ∷ []) ++ 10 ∷ []
 output_of (Out.Run station undone) = spaced run_word (station ∷ undone ∷ []) ++ 10 ∷ []
 output_of (Out.Commit count) = spaced commit_word (count ∷ []) ++ 10 ∷ []
-output_of (Out.No number) = spaced no_word (number ∷ []) ++ 10 ∷ []
+
+-- "A refusal prints "no NUMBER""
+unfoldable pub no_line : ℕ → List ℕ
+no_line number = spaced no_word (number ∷ []) ++ 10 ∷ []
+
+-- the line of an answer, or of its refusal
+abbrev pub answer_line : Result Output Refusal → List ℕ
+answer_line (Ok o) = output_of o
+answer_line (Err e) = no_line (number_of e)
 
 -- "a line for each event with time, target, kind, source, number, value"
 unfoldable pub entry_line : Event → List ℕ

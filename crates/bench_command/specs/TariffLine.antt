@@ -1,13 +1,12 @@
 -- The line that the star tariff's program prints (document 02, change 14).
-use Rattle.std.specs.Prelude.{List, [], ◌∷◌, ◌++◌, ℕ}
-use Rattle.tariff_answers.specs.declared.TariffAnswer.{TariffAnswer}
-use Rattle.tariff_answers.specs.declared.TariffAnswer.TheVariants.{Yes, No}
-use Rattle.bench_command.specs.Lines.{no_word, spaced}
+use Rattle.std.specs.Prelude.{List, [], ◌∷◌, ◌++◌, ℕ, Option, Some, None}
+use Rattle.text.specs.Spaced.{spaced}
+use Rattle.bench_command.specs.Lines.{no_word}
 
 abbrev pub yes_word : List ℕ
 yes_word = 121 ∷ 101 ∷ 115 ∷ []
 
 -- "prints one line, "yes SUM" or "no""
-unfoldable pub tariff_line : TariffAnswer → List ℕ
-tariff_line (Yes sum) = spaced yes_word (sum ∷ []) ++ 10 ∷ []
-tariff_line No = no_word ++ 10 ∷ []
+unfoldable pub tariff_line : Option ℕ → List ℕ
+tariff_line (Some sum) = spaced yes_word (sum ∷ []) ++ 10 ∷ []
+tariff_line None = no_word ++ 10 ∷ []

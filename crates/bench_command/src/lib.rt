@@ -2,8 +2,6 @@
 
 #![tactic(auto)]
 
-use refusal::Refusal;
-
 #[derive(Clone, Copy)]
 pub enum Command {
     Post {
@@ -24,19 +22,11 @@ pub enum Command {
     },
 }
 
-// A command, or refusal 8.
-#[derive(Clone, Copy)]
-pub enum Parsed {
-    Is(Command),
-    Refused(Refusal),
-}
-
-// What is printed: the values of each answer, or the number of a refusal.
+// What an answer prints: its values.
 #[derive(Clone, Copy)]
 pub enum Output {
     Post { number: u64, undone: u64 },
     Retract { undone: u64 },
     Run { station: u64, undone: u64 },
     Commit { count: u64 },
-    No { number: u64 },
 }

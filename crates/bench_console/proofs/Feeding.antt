@@ -7,12 +7,11 @@ use native.Mathlib.Omega.{arith}
 use native.Mathlib.Numerals.{add-one}
 use lib.ListN.{length, get_or, set, take, length-append, length-set, length-take}
 use lib.Seq.{take_all, take-nil, take-append-le, take-suc-set}
-use Rattle.bench_command.proofs.Prefixes.{next_byte}
+use Rattle.std.specs.Prelude.{Option, None, Some}
+use Rattle.text.proofs.Prefixes.{next_byte}
 use Rattle.bench_answers.specs.Promises.{Replied}
 use Rattle.bench_console.specs.Input.{Consumed, Ended, unfed, inside, ends, whole, last}
 use Rattle.bench_console.specs.Steps.{Printed, Unended, Console, Stopped, More, Last, IsReadOn, Within, AnswersAll}
-use Rattle.bench_console.specs.declared.Read.{Read}
-use Rattle.bench_console.specs.declared.Read.TheVariants.{Some, End}
 use Rattle.bench_console.proofs.Lengths.{by_front}
 
 -- no byte yet
@@ -169,7 +168,7 @@ last_stops {xs} {input} {ys} L = record {
 pub nothing_read : (xs line : List ℕ) → More xs [] line 0 xs
 nothing_read xs line = record { read = []; console = record { rest = []; printed = []; fed = unfed; unended = unended_none line } }
 
-module _ {xs line : List ℕ} {len : ℕ} {ys : List ℕ} (line' zs : List ℕ) (r : Read) (M : More xs [] line len ys)
+module _ {xs line : List ℕ} {len : ℕ} {ys : List ℕ} (line' zs : List ℕ) (r : Option ℕ) (M : More xs [] line len ys)
     (on : (us input : List ℕ) → Console us input line len ys → IsReadOn us input line' r zs)
   where
     to : IsReadOn xs M.read line' r zs
@@ -177,12 +176,12 @@ module _ {xs line : List ℕ} {len : ℕ} {ys : List ℕ} (line' zs : List ℕ) 
 
     pub read_more : (n : ℕ) → r ≡ Some n → More xs [] line' n zs
     read_more n e =
-        let m : More xs M.read line' n zs = subst (λ (s : Read). IsReadOn xs M.read line' s zs) e to in
+        let m : More xs M.read line' n zs = subst (λ (s : Option ℕ). IsReadOn xs M.read line' s zs) e to in
         record { read = M.read ++ m.read; console = m.console }
 
-    pub read_to_end : r ≡ End → AnswersAll xs zs
+    pub read_to_end : r ≡ None → AnswersAll xs zs
     read_to_end e =
-        let l : Last xs M.read zs = subst (λ (s : Read). IsReadOn xs M.read line' s zs) e to in
+        let l : Last xs M.read zs = subst (λ (s : Option ℕ). IsReadOn xs M.read line' s zs) e to in
         record { input = M.read; printed = l.printed; rest = []; answers = inl l.ended }
 
 pub stopped : {xs line : List ℕ} {len : ℕ} {ys zs : List ℕ} (M : More xs [] line len ys)
@@ -191,8 +190,8 @@ stopped {xs} M on =
     let (bytes, s) = on xs M.read M.console in
     record { input = M.read ++ take s.count bytes; printed = s.printed; rest = s.rest; answers = s.answers }
 
-pub within_some : (r : Read) (line : List ℕ) (n : ℕ) → r ≡ Some n → Within r line → n ≤ length line
-within_some r line n e w = subst (λ (s : Read). Within s line) e w
+pub within_some : (r : Option ℕ) (line : List ℕ) (n : ℕ) → r ≡ Some n → Within r line → n ≤ length line
+within_some r line n e w = subst (λ (s : Option ℕ). Within s line) e w
 
 -- no read said that the input has ended
 pub read_so_far : {xs line : List ℕ} {len : ℕ} {ys : List ℕ} → More xs [] line len ys → AnswersAll xs ys

@@ -8,9 +8,10 @@ use lib.ListN.{length, take, length-append}
 use lib.Seq.{length-take-le, take_all}
 use Rattle.bench_command.specs.declared.Command.{Command}
 use Rattle.bench_command.specs.declared.Command.TheVariants.{Post, Retract, Run, RunStation, Commit}
-use Rattle.bench_command.specs.Decimal.{decimal}
-use Rattle.bench_command.specs.Lines.{post_word, retract_word, run_word, commit_word, spaced, command_line}
-use Rattle.bench_printing.proofs.Backward.{at_most_20}
+use Rattle.text.specs.Decimal.{decimal}
+use Rattle.text.specs.Spaced.{spaced}
+use Rattle.bench_command.specs.Lines.{post_word, retract_word, run_word, commit_word, command_line}
+use Rattle.text.proofs.Places.{at_most_20}
 use Rattle.bench_answers.specs.Promises.{Replied, obeyed, unread}
 
 spaced_most : (word ns : List ℕ) → length (spaced word ns) ≤ length word + 21 * length ns

@@ -1,8 +1,6 @@
 -- What the console's steps ensure: xs is the engine's buffer at first and ys at last.
-use Rattle.std.specs.Prelude.{◌≡◌, ◌⊎◌, List, ◌++◌, ℕ, ◌≤◌, length, take, Result, MatchResult}
+use Rattle.std.specs.Prelude.{◌≡◌, ◌⊎◌, List, ◌++◌, ℕ, ◌≤◌, length, take, Option, None, Some, Result, MatchResult}
 use Rattle.bench_answers.specs.Promises.{Replied}
-use Rattle.bench_console.specs.declared.Read.{Read}
-use Rattle.bench_console.specs.declared.Read.TheVariants.{Some, End}
 use Rattle.bench_console.specs.Input.{Consumed, Ended}
 
 -- a line is answered
@@ -43,19 +41,19 @@ abbrev pub Taken : {E : Type 0} → List ℕ → List ℕ → List ℕ → List 
 Taken xs input bytes line r ys = MatchResult r (λ len. Console xs (input ++ bytes) line len ys) (λ _. Stopped xs input bytes ys)
 
 -- a read gives more input, or says that it has ended
-abbrev pub IsReadOn : List ℕ → List ℕ → List ℕ → Read → List ℕ → Type 0
+abbrev pub IsReadOn : List ℕ → List ℕ → List ℕ → Option ℕ → List ℕ → Type 0
 IsReadOn xs input line (Some len) ys = More xs input line len ys
-IsReadOn xs input line End ys = Last xs input ys
+IsReadOn xs input line None ys = Last xs input ys
 
 -- .. or what could not be printed ends the run, after some of the bytes that it gives
-abbrev pub ReadOn : {E : Type 0} → List ℕ → List ℕ → List ℕ → Result Read E → List ℕ → Type 0
+abbrev pub ReadOn : {E : Type 0} → List ℕ → List ℕ → List ℕ → Result (Option ℕ) E → List ℕ → Type 0
 ReadOn xs input line r ys = MatchResult r (λ read. IsReadOn xs input line read ys)
     (λ _. (bytes : List ℕ) × Stopped xs input bytes ys)
 
 -- the line that has not ended is no longer than the line buffer
-abbrev pub Within : Read → List ℕ → Type 0
+abbrev pub Within : Option ℕ → List ℕ → Type 0
 Within (Some len) line = len ≤ length line
-Within End line = Unit
+Within None line = Unit
 
 -- all lines of some input are answered; without the last one where no read said that the input has ended
 pub record AnswersAll (xs ys : List ℕ) : Type 0 where

@@ -2,7 +2,7 @@
 
 #![tactic(auto)]
 
-ghost use Rattle.std.specs.Prelude.{List, [], ◌∷◌, ◌++◌, ℕ, ◌≤◌, length, take as List·take, IfOk};
+ghost use Rattle.std.specs.Prelude.{List, [], ◌∷◌, ℕ, ◌≤◌, length, IfOk};
 ghost use Rattle.bench_console.specs.Steps.{Printed, Console, Taken, ReadOn, Within, AnswersAll};
 
 use std::io;
@@ -11,18 +11,18 @@ use std::rt::Files;
 
 // ---- command lines
 
-// The line of so many bytes at the front of the line buffer is answered.
-fn answer<W: Write>(b: &mut [u8], line: &[u8], len: usize, out: &mut W) -> io::Result<()>
-    requires { len ≤ length line.now }
-    ensures { Printed (List·take len line.now) b.old b.new }
+// A line is answered.
+fn answer<W: Write>(b: &mut [u8], line: &[u8], out: &mut W) -> io::Result<()>
+    ensures { Printed line.now b.old b.new }
 {
     let mut text = [0u8; 6240];
-    let n = bench_answers::reply(b, &line[..len], &mut text);
+    let n = bench_answers::reply(b, line, &mut text);
     console::put_to(out, &text, n)
 }
 
 // One byte of input: it ends the line, or is put after it. Answers the line's length. Of a line that is longer than the buffer the front is kept: it is
 // longer than any command, and so is the line.
+// Kept: the buffer is fixed memory that a line grows in, so its length stands beside it.
 fn take<W: Write>(
     b: &mut [u8],
     line: &mut [u8],
@@ -36,7 +36,7 @@ fn take<W: Write>(
         → Taken xs input (byte ∷ []) line.new result b.new }
 {
     if byte == 10 {
-        answer(b, line, len, out)?;
+        answer(b, &line[..len], out)?;
         return Ok(0);
     }
     if len < line.len() {
@@ -58,30 +58,21 @@ fn take_all<W: Write>(
     ensures fed { (xs before : List ℕ) → Console xs before line.old len b.old
         → Taken xs before input.now line.new result b.new }
 {
-    let mut i = 0;
     let mut at = len;
-    while i < input.len() {
-        at = take(b, line, at, input[i], out)?;
-        i += 1;
+    for byte in input {
+        at = take(b, line, at, *byte, out)?;
     }
     Ok(at)
 }
 
-// The length of the line that has not ended, or the input's end.
-#[derive(Clone, Copy)]
-enum Read {
-    Some(usize),
-    End,
-}
-
-// A read of input, and its lines. At the end the line that has not ended is one too.
+// A read of input, and its lines. At the end the line that has not ended is one too. Answers the length of the line that has not ended, or none at the end.
 fn read_some<I: io::Read, W: Write>(
     b: &mut [u8],
     line: &mut [u8],
     len: usize,
     from: &mut I,
     out: &mut W,
-) -> io::Result<Read>
+) -> io::Result<Option<usize>>
     requires { (len ≤ length line.old) × (128 ≤ length line.old) }
     ensures within { IfOk result (λ r. Within r line.new) }
     ensures fed { (xs input : List ℕ) → Console xs input line.old len b.old
@@ -91,27 +82,25 @@ fn read_some<I: io::Read, W: Write>(
     let n = console::read_some(from, &mut input);
     if n == 0 {
         if 0 < len {
-            answer(b, line, len, out)?;
+            answer(b, &line[..len], out)?;
         }
-        return Ok(Read::End);
+        return Ok(None);
     }
-    Ok(Read::Some(take_all(b, line, len, &input[..n], out)?))
+    Ok(Some(take_all(b, line, len, &input[..n], out)?))
 }
 
-// A proved loop has to end, and nothing says that the input does: so it counts its turns down, from a number that no run uses up.
+// A proved loop has to end, and nothing says that the input does: so it takes as many turns as no run uses up.
 fn read_all<I: io::Read, W: Write>(b: &mut [u8], from: &mut I, out: &mut W) -> io::Result<()>
     ensures { AnswersAll b.old b.new }
 {
     let mut space = [0u8; 128];
     let line: &mut [u8] = &mut space;
     let mut len = 0;
-    let mut turns = u64::MAX;
-    while turns > 0 {
-        let Read::Some(n) = read_some(b, line, len, from, out)? else {
+    for _ in 0..u64::MAX {
+        let Some(n) = read_some(b, line, len, from, out)? else {
             return Ok(());
         };
         len = n;
-        turns -= 1;
     }
     Ok(())
 }

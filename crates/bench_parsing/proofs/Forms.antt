@@ -1,22 +1,20 @@
 -- The five forms of a command line: two bytes say which form a line has, and its numbers are those of one command.
 use mathlib.Core.Path.{◌≡◌, refl, sym, ap, ◌∙◌}
-use mathlib.Core.List.{List, [], ◌∷◌, ◌++◌, append_assoc}
+use mathlib.Core.List.{[], ◌∷◌, ◌++◌}
 use Prim.Native.Nat.{ℕ}
 use native.Mathlib.Omega.{arith}
 use lib.ListN.{get_or, drop}
+use Rattle.text.specs.Spaced.{spaced}
+use Rattle.text_reading.proofs.Inverse.{one_decimal}
+use Rattle.text_reading.proofs.Chains.{tail, spaced_tail, one_tail}
 use Rattle.bench_command.specs.declared.Command.{Command}
 use Rattle.bench_command.specs.declared.Command.TheVariants.{Post, Retract, Run, RunStation, Commit}
-use Rattle.bench_command.specs.Decimal.{decimal, Fits}
-use Rattle.bench_command.specs.Lines.{post_word, spaced, command_line, FitsAll}
-use Rattle.bench_command.proofs.Reading.{split}
-
-pub decimal_injective : (v w : ℕ) → Fits v → Fits w → decimal v ≡ decimal w → v ≡ w
-decimal_injective v w f g e = (split v w [] [] f g tt tt (ap (λ (l : List ℕ). l ++ []) e)).0
+use Rattle.bench_command.specs.Lines.{post_word, command_line, FitsAll}
 
 -- each space and each number, one after the other
-pub post_line : (s t k v : ℕ) → command_line (Post s t k v) ≡ post_word ++ (32 ∷ (decimal s ++ (32 ∷ (decimal t ++ (32 ∷ (decimal k ++ (32 ∷ decimal v)))))))
-unfolding command_line spaced
-post_line s t k v = simp append_assoc
+pub post_line : (s t k v : ℕ) → command_line (Post s t k v) ≡ post_word ++ tail (s ∷ t ∷ k ∷ v ∷ [])
+unfolding command_line
+post_line s t k v = spaced_tail post_word (s ∷ t ∷ k ∷ v ∷ [])
 
 -- its second byte says whether a line is one of the two with the word run, its fourth which of the five it is
 abbrev pub second_of : Command → ℕ
@@ -53,20 +51,14 @@ fourth (Commit n) = refl
 pub same : (a b : Command) → FitsAll a → FitsAll b → command_line a ≡ command_line b → fourth_of a ≡ fourth_of b → a ≡ b
 unfolding command_line spaced
 same (Post s t k v) (Post s' t' k' v') f g e z =
-    let h = sym (post_line s t k v) ∙ e ∙ post_line s' t' k' v' in
-    let p = split s s' (32 ∷ (decimal t ++ (32 ∷ (decimal k ++ (32 ∷ decimal v))))) (32 ∷ (decimal t' ++ (32 ∷ (decimal k' ++ (32 ∷ decimal v')))))
-    f.0 g.0 refl refl (ap (drop 5) h) in
-    let q = split t t' (32 ∷ (decimal k ++ (32 ∷ decimal v))) (32 ∷ (decimal k' ++ (32 ∷ decimal v'))) f.1 g.1 refl refl (ap (drop 1) p.1) in
-    let r = split k k' (32 ∷ decimal v) (32 ∷ decimal v') f.2 g.2 refl refl (ap (drop 1) q.1) in
-    let u = decimal_injective v v' f.3 g.3 (ap (drop 1) r.1) in
-    let a = p.0 in
-    let b = q.0 in
-    let c = r.0 in
+    let h =
+    one_tail (s ∷ t ∷ k ∷ v ∷ []) (s' ∷ t' ∷ k' ∷ v' ∷ []) ((f.0, (f.1, (f.2, (f.3, tt))))) ((g.0, (g.1, (g.2, (g.3, tt)))))
+    (ap (drop 4) (sym (post_line s t k v) ∙ e ∙ post_line s' t' k' v')) in
     cc
-same (Retract n) (Retract m) f g e z = ap Retract (decimal_injective n m f g (ap (drop 8) e))
+same (Retract n) (Retract m) f g e z = ap Retract (one_decimal n m f g (ap (drop 8) e))
 same Run Run f g e z = refl
-same (RunStation n) (RunStation m) f g e z = ap RunStation (decimal_injective n m f g (ap (drop 4) e))
-same (Commit n) (Commit m) f g e z = ap Commit (decimal_injective n m f g (ap (drop 7) e))
+same (RunStation n) (RunStation m) f g e z = ap RunStation (one_decimal n m f g (ap (drop 4) e))
+same (Commit n) (Commit m) f g e z = ap Commit (one_decimal n m f g (ap (drop 7) e))
 same (Post s t k v) (Retract m) f g e z = absurd (omega arith)
 same (Post s t k v) Run f g e z = absurd (omega arith)
 same (Post s t k v) (RunStation m) f g e z = absurd (omega arith)

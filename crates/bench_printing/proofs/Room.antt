@@ -1,13 +1,10 @@
 -- Every line has room in 96 bytes.
 use mathlib.Core.Path.{◌≡◌, refl, ◌∙◌}
-use mathlib.Core.Bool.{Bool, true, false}
 use mathlib.Core.List.{List, [], ◌∷◌, ◌++◌}
-use Prim.Native.Nat.{ℕ, zero, suc, ◌+◌, ◌/◌, ◌^◌, ◌<◌, ◌≤◌}
+use Prim.Native.Nat.{ℕ, ◌+◌, ◌^◌, ◌<◌, ◌≤◌}
 use native.Mathlib.Omega.{arith}
-use native.Mathlib.Nat.{pow-succ'}
-use lib.Dec.{ltb}
 use lib.ListN.{length, length-append}
-use borrow.Author.Tests.{ltb-true, ltb-false}
+use Rattle.std.specs.Prelude.{Option, Some, None, Result, Ok, Err}
 use mir.Val.{Val}
 use denote.Laws.{Is}
 use denote.Enum.Declared as Enum
@@ -20,15 +17,15 @@ use Rattle.line.specs.declared.Matter.TheVariants.{Read, Frame, Level}
 use Rattle.line.specs.Matter.{kind_of, value_of}
 use Rattle.bench_command.specs.declared.Output.{Output}
 use Rattle.bench_command.specs.declared.Output.TheVariants as Out
-use Rattle.bench_command.specs.Decimal.{decimal, Fits}
-use Rattle.bench_command.specs.Lines.{spaced, output_of, entry_line}
+use Rattle.bench_command.specs.Lines.{output_of, no_line, answer_line, entry_line}
 use Rattle.bench_command.specs.TariffLine.{tariff_line}
-use Rattle.tariff_answers.specs.declared.TariffAnswer.{TariffAnswer}
-use Rattle.tariff_answers.specs.declared.TariffAnswer.TheVariants.{Yes, No}
 use Rattle.bench_printing.specs.Promises.{Prints}
-use Rattle.bench_printing.specs.Steps.{Appends}
-use Rattle.bench_command.proofs.Reading.{length_one, length_more}
-use Rattle.bench_printing.proofs.Backward.{at_most_20}
+use Rattle.refusal.specs.declared.Refusal.{Refusal}
+use Rattle.text.specs.Decimal.{decimal}
+use Rattle.text.specs.Spaced.{spaced}
+use Rattle.text.proofs.Places.{at_most_10, at_most_20}
+use Rattle.text_writing.specs.Promises.{Appends}
+use Rattle.text_writing.proofs.Appending.{whole, whole_text, whole_end}
 
 -- one number after a word
 one_more : (word : List ℕ) (v : ℕ) → length (word ++ (32 ∷ decimal v)) ≡ length word + (1 + length (decimal v))
@@ -44,33 +41,24 @@ two word v w h =
     let front = word ++ (32 ∷ decimal v) in
     omega (arith, length-append (front ++ (32 ∷ decimal w)) (10 ∷ []), one_more front w, one_more word v, at_most_20 v, at_most_20 w, h)
 
-pub output_room : (o : Output) → length (output_of o) ≤ 96
-unfolding output_of
-output_room (Out.Post number undone) = two _ number undone (omega arith)
-output_room (Out.Retract undone) = one _ undone (omega arith)
-output_room (Out.Run station undone) = two _ station undone (omega arith)
-output_room (Out.Commit count) = one _ count (omega arith)
-output_room (Out.No number) = one _ number (omega arith)
+pub answer_room : (r : Result Output Refusal) → length (answer_line r) ≤ 96
+unfolding output_of no_line
+answer_room (Ok (Out.Post number undone)) = two _ number undone (omega arith)
+answer_room (Ok (Out.Retract undone)) = one _ undone (omega arith)
+answer_room (Ok (Out.Run station undone)) = two _ station undone (omega arith)
+answer_room (Ok (Out.Commit count)) = one _ count (omega arith)
+answer_room (Err e) = one _ _ (omega arith)
 
-pub tariff_room : (t : TariffAnswer) → length (tariff_line t) ≤ 96
+pub no_room : (n : ℕ) → length (no_line n) ≤ 96
+unfolding no_line
+no_room n = one _ n (omega arith)
+
+pub tariff_room : (t : Option ℕ) → length (tariff_line t) ≤ 96
 unfolding tariff_line
-tariff_room (Yes sum) = one _ sum (omega arith)
-tariff_room No = omega arith
+tariff_room (Some sum) = one _ sum (omega arith)
+tariff_room None = omega arith
 
 -- ---- an entry of the log
-
--- a number below a power of ten
-few : (n v : ℕ) → Fits v → v < 10 ^ suc n → length (decimal v) ≤ suc n
-few zero v f h = omega (arith, length_one v (omega arith))
-few (suc n) v f h = go (ltb v 10) refl (few n (v / 10) (omega arith) (omega (arith, pow-succ' 10 (suc n))))
-  where
-    go : (t : Bool) → ltb v 10 ≡ t → length (decimal (v / 10)) ≤ suc n → length (decimal v) ≤ suc (suc n)
-    go true e i = omega (arith, length_one v (ltb-true v 10 e))
-    go false e i = omega (arith, length_more v f (ltb-false v 10 e))
-
--- a number of 32 bits
-at_most_10 : (v : ℕ) → v < 2 ^ 32 → length (decimal v) ≤ 10
-at_most_10 v h = few 9 v (omega arith) (omega arith)
 
 kind_small : (m : Matter) → kind_of m < 2 ^ 32
 kind_small Read = omega arith
@@ -118,9 +106,9 @@ pub printed : (ws : List ℕ) (at : ℕ) (xs : List ℕ) (r : ℕ) (ys : List �
 printed ws at xs r ys room long p =
     record {
       short = λ h. absurd (omega (arith, h, long));
-      written = λ h. p.written (omega (arith, room, h));
-      ends = λ h. p.ends (omega (arith, room, h));
-      most = omega (arith, p.ends (omega (arith, room, long)), room);
+      written = λ h. whole_text (omega (arith, room, h)) p;
+      ends = λ h. whole_end (omega (arith, room, h)) p;
+      most = omega (arith, whole_end (omega (arith, room, long)) p, room);
     }
 
 pub too_short : (ws : List ℕ) (at : ℕ) (xs : List ℕ) → length xs < at + 96 → Prints ws at xs at xs
@@ -137,6 +125,5 @@ too_short ws at xs h =
 pub line_most : {ws : List ℕ} {at : ℕ} {xs : List ℕ} {r : ℕ} {ys : List ℕ} → at + 96 ≤ length xs → Prints ws at xs r ys → length ws ≤ 96
 line_most room p = omega (arith, p.ends room, p.most)
 
-pub appended : {ws : List ℕ} {at : ℕ} {xs : List ℕ} {r : ℕ} {ys : List ℕ} → at + 96 ≤ length xs → length ys ≡ length xs → Prints ws at xs r ys
-    → Appends ws at xs r ys
-appended room size p = record { size = size; written = λ h. p.written room; ends = λ h. p.ends room }
+pub appended : {ws : List ℕ} {at : ℕ} {xs : List ℕ} {r : ℕ} {ys : List ℕ} → at + 96 ≤ length xs → Prints ws at xs r ys → Appends ws at xs r ys
+appended room p = whole _ _ _ _ _ (omega (arith, line_most room p, room)) (p.written room) (p.ends room)

@@ -4,13 +4,12 @@ use mathlib.Core.List.{List, [], ◌∷◌, ◌++◌}
 use Prim.Native.Nat.{ℕ}
 use native.Mathlib.Omega.{arith}
 use lib.ListN.{length, length-append}
+use Rattle.std.specs.Prelude.{Result, Ok, Err}
 use Rattle.refusal.specs.declared.Refusal.{Refusal}
 use Rattle.refusal.specs.Cases.{first_of}
 use Rattle.line.specs.Station.{Plan}
 use Rattle.rules.specs.Engine.{chosen, opened}
 use Rattle.rules.proofs.Calls.Invariant.{opened_inv}
-use Rattle.engine_answers.specs.declared.OpenAnswer.{OpenAnswer}
-use Rattle.engine_answers.specs.declared.OpenAnswer.TheVariants.{Done, Refused}
 use Rattle.plan_format.specs.Line.{line_of}
 use Rattle.engine_promises.specs.Promises.{open_cases, Opens}
 use Rattle.bench_answers.specs.Shown.{open_lines}
@@ -71,10 +70,10 @@ module _ (p : Plan) where
 -- ---- the opening
 
 -- an opening's answer is a matter of the plan and the buffer's length
-one_opening : {plan xs ys xs' ys' : List ℕ} {r q : OpenAnswer} → length xs ≡ length ys → Opens plan 16 64 64 xs r xs' → Opens plan 16 64 64 ys q ys' → r ≡ q
-one_opening {plan} e o k = o.answer ∙ ap (λ n. first_of Refused (open_cases plan 16 64 64 n) Done) e ∙ sym k.answer
+one_opening : {plan xs ys xs' ys' : List ℕ} {r q : Result Unit Refusal} → length xs ≡ length ys → Opens plan 16 64 64 xs r xs' → Opens plan 16 64 64 ys q ys' → r ≡ q
+one_opening {plan} e o k = o.answer ∙ ap (λ n. first_of Err (open_cases plan 16 64 64 n) (Ok tt)) e ∙ sym k.answer
 
-never : {e : Refusal} → Done ≡ Refused e → ⊥
+never : {e : Refusal} → ◌≡◌ {A = Result Unit Refusal} (Ok tt) (Err e) → ⊥
 never z = let y : ◌≡◌ {A = ℕ} 0 1 = cc in omega arith
 
 pub bench_printouts : BenchPrintouts

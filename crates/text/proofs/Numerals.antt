@@ -6,9 +6,10 @@ use Prim.Native.Nat.{ℕ, suc, ◌+◌, ◌-◌, ◌*◌, ◌<◌, ◌≤◌}
 use native.Mathlib.Omega.{arith}
 use native.Mathlib.Numerals.{add-one}
 use lib.Dec.{leb, ltb}
-use lib.ListN.{length, get_or, drop, drop_of_length-le}
+use lib.ListN.{length, get_or, take, drop, drop_of_length-le}
 use lib.Seq.{drop-cons}
 use borrow.Author.Tests.{le-leb, leb-true, ltb-true, ltb-false}
+use Rattle.std.specs.List.{prefix_len}
 use Rattle.line.proofs.Fits.{and_true}
 use Rattle.text.specs.Decimal.{is_digit, Stops}
 use Rattle.text.specs.Numeral.{digit_count, total}
@@ -66,6 +67,34 @@ total_least v (b ∷ bs) = go (total_least (10 * v + (b - 48)) bs) (is_digit b)
     go : 10 * v + (b - 48) ≤ total (10 * v + (b - 48)) bs → (t : Bool) → v ≤ cond t (total (10 * v + (b - 48)) bs) v
     go i true = omega arith
     go i false = omega arith
+
+-- the digits are the longest front whose bytes are digits
+pub count_front : (bs : List ℕ) → prefix_len is_digit bs ≡ digit_count bs
+unfolding digit_count
+count_front [] = refl
+count_front (b ∷ bs) = ap (λ (n : ℕ). cond (is_digit b) n 0) (omega (arith, count_front bs))
+
+-- all bytes of that front are digits
+pub digits_alone : (bs : List ℕ) → digit_count (take (digit_count bs) bs) ≡ length (take (digit_count bs) bs)
+unfolding digit_count
+digits_alone [] = refl
+digits_alone (b ∷ bs) = go (digit_count bs) (is_digit b) refl (digits_alone bs)
+  where
+    go : (k : ℕ) (t : Bool) → is_digit b ≡ t → digit_count (take k bs) ≡ length (take k bs)
+        → digit_count (take (cond t (suc k) 0) (b ∷ bs)) ≡ length (take (cond t (suc k) 0) (b ∷ bs))
+    go k true e i = count_digit b (take k bs) e ∙ ap (λ (n : ℕ). suc n) i
+    go k false e i = refl
+
+-- it says what the whole text says
+pub total_alone : (v : ℕ) (bs : List ℕ) → total v (take (digit_count bs) bs) ≡ total v bs
+unfolding digit_count total
+total_alone v [] = refl
+total_alone v (b ∷ bs) = go (digit_count bs) (is_digit b) refl (total_alone (10 * v + (b - 48)) bs)
+  where
+    go : (k : ℕ) (t : Bool) → is_digit b ≡ t → total (10 * v + (b - 48)) (take k bs) ≡ total (10 * v + (b - 48)) bs
+        → total v (take (cond t (suc k) 0) (b ∷ bs)) ≡ cond t (total (10 * v + (b - 48)) bs) v
+    go k true e i = total_digit v b (take k bs) e ∙ i
+    go k false e i = refl
 
 -- ---- at byte i of a text
 

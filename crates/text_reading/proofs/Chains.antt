@@ -5,12 +5,13 @@ use Prim.Native.Nat.{ℕ, ◌-◌, ◌≤◌}
 use native.Mathlib.Omega.{arith}
 use lib.ListN.{length, drop, length-drop}
 use lib.Seq.{drop-length}
+use Rattle.std.specs.Prelude.{Option, None, Some}
+use Rattle.std.proofs.lemmas.Option.{none-some, same_Some}
 use Rattle.line.specs.Order.{All}
 use Rattle.text.specs.Decimal.{decimal, Fits, Stops}
 use Rattle.text.specs.Spaced.{spaced}
 use Rattle.text.proofs.Reading.{split}
 use Rattle.text_reading.specs.declared.Number.{Number}
-use Rattle.text_reading.specs.declared.Number.TheVariants.{Value, Absent}
 use Rattle.text_reading.specs.Promises.{Numbers, Lasts}
 
 -- ---- the bytes after the word
@@ -43,36 +44,36 @@ one_tail (n ∷ ns) (m ∷ ms) f g e =
 
 -- ---- one number that is looked for
 
-module _ (xs : List ℕ) {at : ℕ} {r : Number} (n : Numbers (32 ∷ []) xs at r) where
+module _ (xs : List ℕ) {at : ℕ} {r : Option Number} (n : Numbers (32 ∷ []) xs at r) where
   -- no number was read
-  fails : r ≡ Absent → (v : ℕ) (rest : List ℕ) → Fits v → drop at xs ≡ 32 ∷ (decimal v ++ rest) → Stops rest → ⊥
-  fails a v rest f e s = let h = n.finds v rest f e s in let z : ◌≡◌ {A = ℕ} 0 1 = cc in omega arith
+  fails : r ≡ None → (v : ℕ) (rest : List ℕ) → Fits v → drop at xs ≡ 32 ∷ (decimal v ++ rest) → Stops rest → ⊥
+  fails a v rest f e s = none-some _ (sym a ∙ n.finds v rest f e s)
 
   -- what stands after the number that was read
-  goes : {w next : ℕ} → r ≡ Value w next → (v : ℕ) (rest : List ℕ) → Fits v → drop at xs ≡ 32 ∷ (decimal v ++ rest) → Stops rest → drop next xs ≡ rest
-  goes {w} {next} a v rest f e s =
-      let h = sym a ∙ n.finds v rest f e s in
-      let same : w ≡ v = cc in
-      let text : 32 ∷ (decimal w ++ drop next xs) ≡ 32 ∷ (decimal v ++ rest) = sym (n.found w next a).1 ∙ e in
-      append_cancel_left (decimal v) (drop next xs) rest (ap (λ (m : ℕ). decimal m ++ drop next xs) (sym same) ∙ ap (drop 1) text)
+  goes : {m : Number} → r ≡ Some m → (v : ℕ) (rest : List ℕ) → Fits v → drop at xs ≡ 32 ∷ (decimal v ++ rest) → Stops rest → drop m.end xs ≡ rest
+  goes {m} a v rest f e s =
+      let same : m.value ≡ v = ap (λ (k : Number). k.value) (same_Some _ _ (sym a ∙ n.finds v rest f e s)) in
+      let text : 32 ∷ (decimal m.value ++ drop m.end xs) ≡ 32 ∷ (decimal v ++ rest) = sym (n.found m a).1 ∙ e in
+      append_cancel_left (decimal v) (drop m.end xs) rest (ap (λ (k : ℕ). decimal k ++ drop m.end xs) (sym same) ∙ ap (drop 1) text)
 
 -- ---- the numbers that were read
 
 -- from byte `at` on, to byte `next`
 pub data Chain (xs : List ℕ) : ℕ → List ℕ → ℕ → Type 0 where
   end : {at : ℕ} → Chain xs at [] at
-  more : {at v next last : ℕ} {ns : List ℕ} {r : Number} → Numbers (32 ∷ []) xs at r → r ≡ Value v next → Chain xs next ns last → Chain xs at (v ∷ ns) last
+  more : {at last : ℕ} {n : Number} {ns : List ℕ} {r : Option Number} → Numbers (32 ∷ []) xs at r → r ≡ Some n → Chain xs n.end ns last
+      → Chain xs at (n.value ∷ ns) last
 
 module _ (xs : List ℕ) where
   pub chain_fits : {at last : ℕ} {ns : List ℕ} → Chain xs at ns last → All Fits ns
   chain_fits end = tt
-  chain_fits (more n e c) = ((n.found _ _ e).0, chain_fits c)
+  chain_fits (more n e c) = ((n.found _ e).0, chain_fits c)
 
   -- with the numbers that stand after them
   pub chain_text : {at last : ℕ} {ns : List ℕ} → Chain xs at ns last → (ms : List ℕ) → drop last xs ≡ tail ms → drop at xs ≡ tail (ns ++ ms)
   unfolding tail
   chain_text end ms q = q
-  chain_text (more {v = v} n e c) ms q = (n.found _ _ e).1 ∙ ap (λ (l : List ℕ). 32 ∷ (decimal v ++ l)) (chain_text c ms q)
+  chain_text (more {n = m} n e c) ms q = (n.found _ e).1 ∙ ap (λ (l : List ℕ). 32 ∷ (decimal m.value ++ l)) (chain_text c ms q)
 
   -- in a line that has as many numbers, what stands after these stands after those
   pub follows : {at last : ℕ} {ns : List ℕ} → Chain xs at ns last → (ks ms : List ℕ) → length ks ≡ length ns → All Fits ks
@@ -85,20 +86,20 @@ module _ (xs : List ℕ) where
 
   -- ---- the number after them
 
-  module _ {at last : ℕ} {ns : List ℕ} (c : Chain xs at ns last) {r : Number} where
-    pub no_next : Numbers (32 ∷ []) xs last r → r ≡ Absent → (ks : List ℕ) (k : ℕ) (ms : List ℕ) → length ks ≡ length ns → All Fits ks → Fits k
+  module _ {at last : ℕ} {ns : List ℕ} (c : Chain xs at ns last) {r : Option Number} where
+    pub no_next : Numbers (32 ∷ []) xs last r → r ≡ None → (ks : List ℕ) (k : ℕ) (ms : List ℕ) → length ks ≡ length ns → All Fits ks → Fits k
         → drop at xs ≡ tail (ks ++ (k ∷ ms)) → ⊥
     unfolding tail
     no_next n e ks k ms l f g q = fails xs n e k (tail ms) g (follows c ks (k ∷ ms) l f q) (stops ms)
 
-    pub no_last : Lasts (32 ∷ []) xs last r → r ≡ Absent → (ks : List ℕ) (k : ℕ) → length ks ≡ length ns → All Fits ks → Fits k
+    pub no_last : Lasts (32 ∷ []) xs last r → r ≡ None → (ks : List ℕ) (k : ℕ) → length ks ≡ length ns → All Fits ks → Fits k
         → drop at xs ≡ tail (ks ++ (k ∷ [])) → ⊥
     unfolding tail
     no_last n e ks k l f g q = n.absent e k g (follows c ks (k ∷ []) l f q ∙ ap (λ (l : List ℕ). 32 ∷ l) (append-nil (decimal k)))
 
-    pub with_last : Lasts (32 ∷ []) xs last r → {v next : ℕ} → r ≡ Value v next → drop at xs ≡ tail (ns ++ (v ∷ []))
+    pub with_last : Lasts (32 ∷ []) xs last r → {m : Number} → r ≡ Some m → drop at xs ≡ tail (ns ++ (m.value ∷ []))
     unfolding tail
-    with_last n {v} e = chain_text c (v ∷ []) ((n.found _ _ e).1 ∙ ap (λ (l : List ℕ). 32 ∷ l) (sym (append-nil (decimal v))))
+    with_last n {m} e = chain_text c (m.value ∷ []) ((n.found _ e).1 ∙ ap (λ (l : List ℕ). 32 ∷ l) (sym (append-nil (decimal m.value))))
 
   -- ---- the line's end after them
 

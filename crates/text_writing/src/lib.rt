@@ -1,4 +1,6 @@
 // Bytes and numbers that are appended to a text: each function writes from byte `at` on as many bytes as have room, and answers the place after them.
+// Kept, a place beside the buffer: the promise is of the whole buffer at entry and at exit, as its callers ask. Kept, digits by hand: `write!` says nothing of
+// what stands in a buffer that it found too small, and here as many digits as have room are promised.
 
 #![tactic(auto)]
 
@@ -20,11 +22,9 @@ pub fn append_byte(out: &mut [u8], at: usize, byte: u8) -> usize
 pub fn append_word(out: &mut [u8], at: usize, word: &[u8]) -> usize
     ensures { Appends word.now at out.old result out.new }
 {
-    let mut i = 0;
     let mut end = at;
-    while i < word.len() {
-        end = append_byte(out, end, word[i]);
-        i += 1;
+    for b in word {
+        end = append_byte(out, end, *b);
     }
     end
 }
@@ -33,11 +33,9 @@ pub fn append_word(out: &mut [u8], at: usize, word: &[u8]) -> usize
 pub fn append_times(out: &mut [u8], at: usize, byte: u8, n: usize) -> usize
     ensures { Appends (replicate n byte) at out.old result out.new }
 {
-    let mut i = 0;
     let mut end = at;
-    while i < n {
+    for _ in 0..n {
         end = append_byte(out, end, byte);
-        i += 1;
     }
     end
 }
@@ -49,7 +47,7 @@ fn width(v: u64) -> usize
     let mut rest = v;
     let mut n = 1;
     while 9 < rest {
-        rest = rest / 10;
+        rest /= 10;
         n += 1;
     }
     n
@@ -65,18 +63,13 @@ pub fn append_number(out: &mut [u8], at: usize, v: u64) -> usize
     let room = out.len() - at;
     let n = width(v);
     let mut rest = v;
-    let mut k = n;
-    while 0 < k {
-        k -= 1;
+    for k in (0..n).rev() {
         if k < room {
             out[at + k] = (48 + rest % 10) as u8;
         }
-        rest = rest / 10;
+        rest /= 10;
     }
-    if n < room {
-        return at + n;
-    }
-    out.len()
+    at + n.min(room)
 }
 
 // A number after one space.
@@ -91,11 +84,6 @@ pub fn append_after(out: &mut [u8], at: usize, v: u64) -> usize
 pub fn append_right(out: &mut [u8], at: usize, v: u64, wide: usize) -> usize
     ensures { Appends (right_in wide v) at out.old result out.new }
 {
-    let n = width(v);
-    let mut spaces = 0;
-    if n < wide {
-        spaces = wide - n;
-    }
-    let a = append_times(out, at, 32, spaces);
+    let a = append_times(out, at, 32, wide.saturating_sub(width(v)));
     append_number(out, a, v)
 }

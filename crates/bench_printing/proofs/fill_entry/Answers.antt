@@ -1,17 +1,19 @@
--- The parts of the line, one after the other.
-use mathlib.Core.Path.{ap}
-use mathlib.Core.List.{◌∷◌}
+-- The time, then the numbers.
+use mathlib.Core.Path.{ap₂}
+use mathlib.Core.List.{List, [], ◌∷◌, ◌++◌}
 use Prim.Native.Nat.{ℕ}
-use Rattle.bench_command.specs.Decimal.{decimal}
-use Rattle.bench_command.specs.Lines.{spaced, entry_line}
-use Rattle.bench_printing.proofs.Appending.{then, read_as}
+use Rattle.bench_command.specs.Lines.{entry_line}
+use Rattle.line.specs.Matter.{kind_of, value_of}
+use Rattle.text.specs.Decimal.{decimal}
+use Rattle.text.specs.Spaced.{spaced}
+use Rattle.text_writing.proofs.Appending.{appends_join, read_as}
+use Rattle.bench_printing.proofs.Appending.{after_word}
 use Rattle.bench_printing.proofs.fill_entry.Goals as goal
 
 pub returns : goal.returns
-unfolding spaced entry_line
+unfolding entry_line
 returns c =
-    let target = then c.append_number-a.ensures c.append_after-c.ensures in
-    let kind = then target (read_as (ap (λ (n : ℕ). 32 ∷ decimal n) c.kind_of.ensures) c.append_after-d.ensures) in
-    let number = then (then kind c.append_after-f.ensures) c.append_after-g.ensures in
-    let value = then number (read_as (ap (λ (n : ℕ). 32 ∷ decimal n) c.value_of.ensures) c.append_after-h.ensures) in
-    then value c.append_byte.ensures
+    let x = c.args.e in
+    let numbers : List ℕ = x.target ∷ kind_of x.matter ∷ x.source ∷ x.number ∷ value_of x.matter ∷ [] in
+    let same = ap₂ (λ k v. spaced [] (x.target ∷ k ∷ x.source ∷ x.number ∷ v ∷ []) ++ 10 ∷ []) c.kind_of-kind.ensures c.value_of-value.ensures in
+    read_as (after_word (decimal x.time) numbers) (appends_join c.append_number-a.ensures (read_as same c.end_line.ensures))

@@ -1,14 +1,7 @@
 -- A buffer of 96 bytes has room for every entry.
 use native.Mathlib.Omega.{arith}
-use Rattle.bench_printing.proofs.Room.{entry_room, printed, too_short}
+use Rattle.bench_printing.proofs.Room.{entry_room, printed}
 use Rattle.bench_printing.proofs.print_entry.Goals as goal
 
-pub returns-then-out-lt-ROOM : goal.returns-then-out-lt-ROOM
-returns-then-out-lt-ROOM c = too_short _ _ _ (omega (arith, c.if-out-lt-ROOM.true))
-
-pub returns-then-out-at : goal.returns-then-out-at
-returns-then-out-at c = too_short _ _ _ (omega (arith, c.if-out-lt-ROOM.false, c.if-out-at.true))
-
 pub returns : goal.returns
-returns c =
-    printed _ _ _ _ _ (entry_room _ _ c.well_formed.1.1.0) (omega (arith, c.if-out-lt-ROOM.false, c.if-out-at.false)) c.fill_entry.ensures
+returns c = printed _ _ _ _ _ (entry_room _ _ c.well_formed.1.1.0) (omega (arith, c.saturating_sub.ensures, c.if-saturating_sub-lt-ROOM.false)) c.fill_entry.ensures

@@ -1,12 +1,7 @@
 -- What is read so far is a line, and the buffer keeps its length.
-use Prim.Native.Nat.{◌-◌}
-use mathlib.Core.Path.{◌≡◌}
-use lib.ListN.{length}
+use Rattle.std.proofs.Common.{◌≡◌, length}
 use Rattle.console.specs.Promises.{ReadsLine}
 use Rattle.console.proofs.read_line.Given as goal
 
 abbrev pub invariant-loop-len : goal.invariant-loop-len
 invariant-loop-len g l = ReadsLine l.initial.line l.len l.line × (length l.line ≡ length l.initial.line)
-
-abbrev pub decreases-loop-len : goal.decreases-loop-len
-decreases-loop-len g l = length l.line - l.len

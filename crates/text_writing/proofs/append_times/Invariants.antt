@@ -1,11 +1,7 @@
 -- As often as the loop has turned, the byte is appended.
-use Prim.Native.Nat.{◌-◌, ◌≤◌}
-use lib.ListN.{replicate}
+use Rattle.std.proofs.Common.{replicate}
 use Rattle.text_writing.specs.Promises.{Appends}
 use Rattle.text_writing.proofs.append_times.Given as goal
 
-abbrev pub invariant-loop-i : goal.invariant-loop-i
-invariant-loop-i l = (l.i ≤ l.n) × Appends (replicate l.i l.byte) l.at l.initial.out l.end l.out
-
-abbrev pub decreases-loop-i : goal.decreases-loop-i
-decreases-loop-i l = l.n - l.i
+abbrev pub invariant-loop : goal.invariant-loop
+invariant-loop l = Appends (replicate l.counter l.byte) l.at l.initial.out l.end l.out

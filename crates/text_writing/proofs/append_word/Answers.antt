@@ -1,32 +1,12 @@
 -- The bytes that are passed are appended.
-use mathlib.Core.Path.{sym}
-use native.Mathlib.Omega.{arith}
-use lib.Seq.{take_all}
-use Rattle.text_writing.proofs.Appending.{nothing, appends_join, read_as, same_size}
+use Rattle.std.proofs.Common.{sym}
 use Rattle.text.proofs.Prefixes.{next_byte}
+use Rattle.text_writing.proofs.Appending.{nothing, appends_join, read_as}
 use Rattle.text_writing.proofs.append_word.Goals as goal
 
-pub loop-i-init : goal.loop-i-init
-loop-i-init c = (omega arith, nothing _ _)
+pub loop-b-init : goal.loop-b-init
+loop-b-init c = nothing _ _
 
-pub bounds-word-i : goal.bounds-word-i
-bounds-word-i c = omega arith
-
-pub overflow_add-i : goal.overflow_add-i
-overflow_add-i c = omega arith
-
-pub loop-i-smaller : goal.loop-i-smaller
-loop-i-smaller c = omega arith
-
-pub loop-i-preserved : goal.loop-i-preserved
-loop-i-preserved c =
-    let l = c.loop-i in
-    let b = c.append_byte-end.ensures in
-    let word = c.args.word.now in
-    (omega arith, read_as (sym (next_byte word l.i (omega arith))) (appends_join l.invariant.1 b))
-
-pub shape_of-out : goal.shape_of-out
-shape_of-out c = same_size c.loop-i.invariant.1
-
-pub returns : goal.returns
-returns c = let l = c.loop-i in read_as (take_all l.i c.args.word.now (omega arith)) l.invariant.1
+pub loop-b-preserved : goal.loop-b-preserved
+loop-b-preserved c =
+    read_as (sym (next_byte c.args.word.now c.loop-b.b-index c.loop-b-test.true)) (appends_join c.loop-b.invariant c.append_byte-end.ensures)

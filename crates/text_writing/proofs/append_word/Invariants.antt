@@ -1,11 +1,7 @@
 -- The bytes that are passed are appended.
-use Prim.Native.Nat.{◌-◌, ◌≤◌}
-use lib.ListN.{length, take}
+use Rattle.std.proofs.Common.{take}
 use Rattle.text_writing.specs.Promises.{Appends}
 use Rattle.text_writing.proofs.append_word.Given as goal
 
-abbrev pub invariant-loop-i : goal.invariant-loop-i
-invariant-loop-i l = (l.i ≤ length l.word) × Appends (take l.i l.word) l.at l.initial.out l.end l.out
-
-abbrev pub decreases-loop-i : goal.decreases-loop-i
-decreases-loop-i l = length l.word - l.i
+abbrev pub invariant-loop-b : goal.invariant-loop-b
+invariant-loop-b l = Appends (take l.b-index l.word) l.at l.initial.out l.end l.out
