@@ -10,6 +10,11 @@ use quote_numbers::{HEARD, LOST};
 use std::io;
 use std::io::Write;
 
+// The colours of what was heard, and of what was lost.
+const HEARD_FILL: &str = "#3a7ca5";
+
+const LOST_FILL: &str = "#e8871e";
+
 // The pixels that a day has: whole ones, so that all bars look alike.
 fn slot_of(days: u16) -> u64
     ensures { result ≤ 740 }
@@ -17,11 +22,7 @@ fn slot_of(days: u16) -> u64
     if days == 0 {
         return 740;
     }
-    let slot = 740 / (days as u64);
-    if 740 < slot {
-        return 740;
-    }
-    slot
+    740 / u64::from(days)
 }
 
 // How wide a bar is: a quarter of the slot and one pixel less than it, and 80 at most.
@@ -29,21 +30,14 @@ fn bar_of(slot: u64) -> u64 {
     if slot < 2 {
         return 1;
     }
-    let bar = slot - slot / 4 - 1;
-    if 80 < bar {
-        return 80;
-    }
-    bar
+    (slot - slot / 4 - 1).min(80)
 }
 
 // Where a bar begins in its slot.
 fn margin_of(slot: u64, bar: u64) -> u64
     ensures { result ≤ slot }
 {
-    if slot < bar {
-        return 0;
-    }
-    (slot - bar) / 2
+    slot.saturating_sub(bar) / 2
 }
 
 // Which days are named: those that this divides. All of up to 31, and of more 24 at most.
@@ -51,29 +45,15 @@ fn named_of(days: u16) -> u64 {
     if days <= 31 {
         return 1;
     }
-    quote_numbers::round_up((days as u64 + 23) / 24)
-}
-
-fn put_heard(out: &mut impl Write, x: u64, y: u64, wide: u64, tall: u64) -> io::Result<()> {
-    quote_shapes::put_rect(out, x, y, wide, tall, b"#3a7ca5")
-}
-
-fn put_lost(out: &mut impl Write, x: u64, y: u64, wide: u64, tall: u64) -> io::Result<()> {
-    quote_shapes::put_rect(out, x, y, wide, tall, b"#e8871e")
+    quote_numbers::round_up(u64::from(days).div_ceil(24))
 }
 
 // What was lost, on a bar of this height: 2 high at least, so that it is seen.
-fn put_lost_on(out: &mut impl Write, x: u64, wide: u64, low: u64, high: u64) -> io::Result<()> {
-    if 280 < low {
-        return Ok(());
-    }
-    if 280 < high {
-        return Ok(());
-    }
-    if high < low + 2 {
-        return put_lost(out, x, 342 - low, wide, 2);
-    }
-    put_lost(out, x, 344 - high, wide, high - low)
+fn put_lost_on(out: &mut impl Write, x: u64, wide: u64, low: u64, high: u64) -> io::Result<()>
+    requires { (low ≤ 280) × (high ≤ 280) }
+{
+    let tall = high.saturating_sub(low).max(2);
+    quote_shapes::put_rect(out, x, 344 - low - tall, wide, tall, LOST_FILL)
 }
 
 fn put_bar(
@@ -84,43 +64,21 @@ fn put_bar(
     lost: u32,
     top: u64,
 ) -> io::Result<()> {
-    let low = quote_numbers::height(heard as u64, top);
-    put_heard(out, x, 344 - low, wide, low)?;
+    let low = quote_numbers::height(u64::from(heard), top);
+    quote_shapes::put_rect(out, x, 344 - low, wide, low, HEARD_FILL)?;
     if lost == 0 {
         return Ok(());
     }
-    put_lost_on(
-        out,
-        x,
-        wide,
-        low,
-        quote_numbers::height(heard as u64 + lost as u64, top),
-    )
+    let high = quote_numbers::height(u64::from(heard) + u64::from(lost), top);
+    put_lost_on(out, x, wide, low, high)
 }
 
 // A day's number below its bar, where it is named.
 fn put_name(out: &mut impl Write, x: u64, day: u64, named: u64) -> io::Result<()> {
-    if named == 0 {
+    if named == 0 || day % named != 0 {
         return Ok(());
     }
-    if day % named == 0 {
-        quote_labels::put_number(out, x, 362, b"middle", b"", day)?;
-    }
-    Ok(())
-}
-
-fn put_day(
-    out: &mut impl Write,
-    hours: &[u32],
-    day: u16,
-    x: u64,
-    wide: u64,
-    top: u64,
-) -> io::Result<()> {
-    let from = 24 * (day as u32);
-    let heard = quote_numbers::between(hours, HEARD, from, from + 24);
-    let lost = quote_numbers::between(hours, LOST, from, from + 24);
-    put_bar(out, x, wide, heard, lost, top)
+    quote_labels::put(out, x, 362, "middle", day)
 }
 
 // The days in turn, where a number of `top` frames is 280 high.
@@ -129,21 +87,20 @@ pub fn put(out: &mut impl Write, hours: &[u32], days: u16, top: u64) -> io::Resu
     let wide = bar_of(slot);
     let margin = margin_of(slot, wide);
     let named = named_of(days);
-    let mut x: u64 = 90;
-    let mut d: u16 = 0;
-    while d < days {
-        put_day(out, hours, d, x + margin, wide, top)?;
-        put_name(out, x + slot / 2, d as u64 + 1, named)?;
-        x += slot;
-        d += 1;
+    for d in 0..days {
+        let x = 90 + slot * u64::from(d);
+        let heard = quote_numbers::on_day(hours, HEARD, d);
+        let lost = quote_numbers::on_day(hours, LOST, d);
+        put_bar(out, x + margin, wide, heard, lost, top)?;
+        put_name(out, x + slot / 2, u64::from(d) + 1, named)?;
     }
     Ok(())
 }
 
 // What the colours say, with the frames of all days.
 pub fn put_legend(out: &mut impl Write, heard: u32, lost: u32) -> io::Result<()> {
-    put_heard(out, 90, 37, 11, 11)?;
-    quote_labels::put_number(out, 107, 47, b"start", b"heard ", heard as u64)?;
-    put_lost(out, 240, 37, 11, 11)?;
-    quote_labels::put_number(out, 257, 47, b"start", b"lost ", lost as u64)
+    quote_shapes::put_rect(out, 90, 37, 11, 11, HEARD_FILL)?;
+    quote_labels::put(out, 107, 47, "start", format_args!("heard {heard}"))?;
+    quote_shapes::put_rect(out, 240, 37, 11, 11, LOST_FILL)?;
+    quote_labels::put(out, 257, 47, "start", format_args!("lost {lost}"))
 }

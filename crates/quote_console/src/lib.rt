@@ -4,13 +4,17 @@
 
 ghost use Rattle.std.specs.Prelude.{◌≡◌, length};
 
-use engine_answers::UntilAnswer;
-use quoting::QuoteAnswer;
+use engine_answers::UntilError;
+use quote_setup::SetUpError;
+use quoting::QuoteError;
 use std::io;
 use std::io::{Read, Write};
 use std::rt::{Clock, Files};
 
 // ---- room
+//
+// Kept: functions with their lengths as contracts. An array written where it is used has its length computed item by item there, and the proof runs out of
+// stack.
 
 // An engine of 256 stations and 4096 events: 32768 + 256·256 + 256·4096 bytes.
 fn engine_room() -> [u8; 1146880]
@@ -72,32 +76,18 @@ fn show(
     draw(rt, picture, plan, days, table)
 }
 
-// Why there is no figure.
-fn show_stop(u: UntilAnswer, words: &mut impl Write) -> io::Result<()> {
-    match u {
-        UntilAnswer::Done => Ok(()),
-        UntilAnswer::Refused(e) => quote_words::refused_run(words, e),
-        UntilAnswer::Busy { time } => quote_words::too_busy(words, time),
-        UntilAnswer::Unfinished => quote_words::unfinished(words),
-    }
-}
-
-fn show_answer(
-    rt: &(impl Files + Print + Eprint),
-    a: QuoteAnswer,
-    plan: &[u8],
-    b: &[u8],
-    table: &[u32],
-    picture: &[u8],
-    words: &mut impl Write,
-) -> io::Result<()> {
-    match a {
-        QuoteAnswer::Done { days } => show(rt, plan, b, days, table, picture),
-        QuoteAnswer::Short => Ok(()),
-        QuoteAnswer::Plan(e) => quote_words::refused_plan(words, plan, e),
-        QuoteAnswer::Line { line, refusal } => quote_words::refused_line(words, line, refusal),
-        QuoteAnswer::Reading(e) => quote_words::refused_readings(words, e),
-        QuoteAnswer::Stopped(u) => show_stop(u, words),
+// Why there is no figure. The table lent here is never short.
+fn show_error(words: &mut impl Write, plan: &[u8], e: QuoteError) -> io::Result<()> {
+    match e {
+        QuoteError::Short => Ok(()),
+        QuoteError::SetUp(SetUpError::Plan(r)) => quote_words::refused_plan(words, plan, r),
+        QuoteError::SetUp(SetUpError::Line(l)) => {
+            quote_words::refused_line(words, l.line, l.refusal)
+        }
+        QuoteError::SetUp(SetUpError::Reading(r)) => quote_words::refused_readings(words, r),
+        QuoteError::Stopped(UntilError::Refused(r)) => quote_words::refused_run(words, r),
+        QuoteError::Stopped(UntilError::Busy { time }) => quote_words::too_busy(words, time),
+        QuoteError::Stopped(UntilError::Unfinished) => quote_words::unfinished(words),
     }
 }
 
@@ -113,8 +103,10 @@ fn run(
     let mut b = engine_room();
     let mut out = log_room();
     let mut table = table_room();
-    let a = quoting::quote(rt, plan, text, &mut b, &mut out, &mut table);
-    show_answer(rt, a, plan, &b, &table, picture, words)
+    match quoting::quote(rt, plan, text, &mut b, &mut out, &mut table) {
+        Ok(days) => show(rt, plan, &b, days, &table, picture),
+        Err(e) => show_error(words, plan, e),
+    }
 }
 
 fn read_scenario(

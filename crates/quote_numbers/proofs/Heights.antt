@@ -1,7 +1,8 @@
 -- How high a number is drawn, by the tests of `height`.
-use mathlib.Core.Path.{◌≡◌, refl, sym}
+use mathlib.Core.Path.{◌≡◌, refl}
+use Rattle.std.specs.Prelude.{min}
 use Prim.Native.Nat.{ℕ, zero, suc, ◌*◌, ◌/◌, ◌≤◌, ◌<◌}
-use native.Mathlib.Nat.{min-eq_left, min-eq_right}
+use Rattle.std.proofs.Math.Nat.{min_comm}
 use native.Mathlib.Omega.{arith}
 use borrow.Author.Tests.{le-leb, lt-leb}
 use Rattle.quote_numbers.specs.Heights.{height_of}
@@ -16,12 +17,7 @@ unfolding height_of
 too_many v zero e h = absurd (e refl)
 too_many v (suc t) e h = rw (lt-leb v 1000000000000 h)
 
-pub over_top : (v top : ℕ) → (top ≡ 0 → ⊥) → v ≤ 1000000000000 → 280 < 280 * v / top → 280 ≡ height_of v top
+pub under_top : (v top : ℕ) → (top ≡ 0 → ⊥) → v ≤ 1000000000000 → min (280 * v / top) 280 ≡ height_of v top
 unfolding height_of
-over_top v zero e h l = absurd (e refl)
-over_top v (suc t) e h l = rw (le-leb v 1000000000000 h) (sym (min-eq_left (omega arith)))
-
-pub in_range : (v top : ℕ) → (top ≡ 0 → ⊥) → v ≤ 1000000000000 → 280 * v / top ≤ 280 → 280 * v / top ≡ height_of v top
-unfolding height_of
-in_range v zero e h l = absurd (e refl)
-in_range v (suc t) e h l = rw (le-leb v 1000000000000 h) (sym (min-eq_right l))
+under_top v zero e h = absurd (e refl)
+under_top v (suc t) e h = rw (le-leb v 1000000000000 h) (min_comm (280 * v / suc t) 280)

@@ -1,3 +1,4 @@
 pub mod Rounding
 pub mod Counting
 pub mod Heights
+pub mod Digits

@@ -6,88 +6,77 @@ use refusal::Refusal;
 use std::io;
 use std::rt::{Clock, Files};
 
+// Each is asked of good.bin.
+const SCENARIOS: [&str; 31] = [
+    "nothing.txt",
+    "day.txt",
+    "last_days_hold.txt",
+    "empty_line.txt",
+    "empty_after.txt",
+    "days_0.txt",
+    "days_366.txt",
+    "days_367.txt",
+    "leading_zero.txt",
+    "sign.txt",
+    "two_spaces.txt",
+    "space_after.txt",
+    "carriage_return.txt",
+    "capital.txt",
+    "too_few.txt",
+    "too_many.txt",
+    "over_64_bits.txt",
+    "station_2.txt",
+    "station_3.txt",
+    "station_64_bits.txt",
+    "level.txt",
+    "level_over.txt",
+    "station_before_level.txt",
+    "time.txt",
+    "time_over.txt",
+    "level_before_time.txt",
+    "posts_4096.txt",
+    "posts_4097.txt",
+    "posts_4095.txt",
+    "full.txt",
+    "busy.txt",
+];
+
+// Each is asked by day.txt.
+const PLANS: [&str; 20] = [
+    "parent_of_the_first.bin",
+    "calm_before_seed.bin",
+    "spring_0.bin",
+    "hop_before_noise.bin",
+    "seed_high.bin",
+    "chain.bin",
+    "empty.bin",
+    "one_byte.bin",
+    "no_stations.bin",
+    "stations_257.bin",
+    "no_pairs.bin",
+    "cut.bin",
+    "offset.bin",
+    "trailing.bin",
+    "own_parent.bin",
+    "calm_0.bin",
+    "hop_0.bin",
+    "noise.bin",
+    "seed_0.bin",
+    "space_in_a_name.bin",
+];
+
 // A plan is quoted by the scenario in a file.
-fn ask(rt: &(impl Files + Print + Eprint + Clock), path: &[u8], scenario: &[u8]) -> io::Result<()> {
-    match console::open(rt, scenario) {
-        Ok(mut file) => {
-            quote_console::serve(rt, path, &mut file, b"quote.svg", &mut io::writer(rt))
-        }
-        Err(e) => console::fail(rt, scenario, e),
+fn ask(rt: &(impl Files + Print + Eprint + Clock), path: &str, scenario: &str) -> io::Result<()> {
+    match console::open(rt, scenario.as_bytes()) {
+        Ok(mut file) => quote_console::serve(
+            rt,
+            path.as_bytes(),
+            &mut file,
+            b"quote.svg",
+            &mut io::writer(rt),
+        ),
+        Err(e) => console::fail(rt, scenario.as_bytes(), e),
     }
-}
-
-fn ask_good(rt: &(impl Files + Print + Eprint + Clock), scenario: &[u8]) -> io::Result<()> {
-    ask(rt, b"good.bin", scenario)
-}
-
-fn ask_day(rt: &(impl Files + Print + Eprint + Clock), path: &[u8]) -> io::Result<()> {
-    ask(rt, path, b"day.txt")
-}
-
-fn scenarios_1(rt: &(impl Files + Print + Eprint + Clock)) -> io::Result<()> {
-    ask_good(rt, b"nothing.txt")?;
-    ask_good(rt, b"day.txt")?;
-    ask_good(rt, b"last_days_hold.txt")?;
-    ask_good(rt, b"empty_line.txt")?;
-    ask_good(rt, b"empty_after.txt")?;
-    ask_good(rt, b"days_0.txt")?;
-    ask_good(rt, b"days_366.txt")?;
-    ask_good(rt, b"days_367.txt")?;
-    ask_good(rt, b"leading_zero.txt")?;
-    ask_good(rt, b"sign.txt")?;
-    ask_good(rt, b"two_spaces.txt")?;
-    ask_good(rt, b"space_after.txt")
-}
-
-fn scenarios_2(rt: &(impl Files + Print + Eprint + Clock)) -> io::Result<()> {
-    ask_good(rt, b"carriage_return.txt")?;
-    ask_good(rt, b"capital.txt")?;
-    ask_good(rt, b"too_few.txt")?;
-    ask_good(rt, b"too_many.txt")?;
-    ask_good(rt, b"over_64_bits.txt")?;
-    ask_good(rt, b"station_2.txt")?;
-    ask_good(rt, b"station_3.txt")?;
-    ask_good(rt, b"station_64_bits.txt")?;
-    ask_good(rt, b"level.txt")?;
-    ask_good(rt, b"level_over.txt")?;
-    ask_good(rt, b"station_before_level.txt")?;
-    ask_good(rt, b"time.txt")
-}
-
-fn scenarios_3(rt: &(impl Files + Print + Eprint + Clock)) -> io::Result<()> {
-    ask_good(rt, b"time_over.txt")?;
-    ask_good(rt, b"level_before_time.txt")?;
-    ask_good(rt, b"posts_4096.txt")?;
-    ask_good(rt, b"posts_4097.txt")?;
-    ask_good(rt, b"posts_4095.txt")?;
-    ask_good(rt, b"full.txt")?;
-    ask_good(rt, b"busy.txt")
-}
-
-fn plans_1(rt: &(impl Files + Print + Eprint + Clock)) -> io::Result<()> {
-    ask_day(rt, b"parent_of_the_first.bin")?;
-    ask_day(rt, b"calm_before_seed.bin")?;
-    ask_day(rt, b"spring_0.bin")?;
-    ask_day(rt, b"hop_before_noise.bin")?;
-    ask_day(rt, b"seed_high.bin")?;
-    ask_day(rt, b"chain.bin")?;
-    ask_day(rt, b"empty.bin")?;
-    ask_day(rt, b"one_byte.bin")?;
-    ask_day(rt, b"no_stations.bin")?;
-    ask_day(rt, b"stations_257.bin")?;
-    ask_day(rt, b"no_pairs.bin")?;
-    ask_day(rt, b"cut.bin")
-}
-
-fn plans_2(rt: &(impl Files + Print + Eprint + Clock)) -> io::Result<()> {
-    ask_day(rt, b"offset.bin")?;
-    ask_day(rt, b"trailing.bin")?;
-    ask_day(rt, b"own_parent.bin")?;
-    ask_day(rt, b"calm_0.bin")?;
-    ask_day(rt, b"hop_0.bin")?;
-    ask_day(rt, b"noise.bin")?;
-    ask_day(rt, b"seed_0.bin")?;
-    ask_day(rt, b"space_in_a_name.bin")
 }
 
 // What no plan and scenario of these meets.
@@ -100,10 +89,11 @@ fn unmet(rt: &impl Print) -> io::Result<()> {
 }
 
 fn main(rt: HostRuntime) -> io::Result<()> {
-    scenarios_1(&rt)?;
-    scenarios_2(&rt)?;
-    scenarios_3(&rt)?;
-    plans_1(&rt)?;
-    plans_2(&rt)?;
+    for scenario in SCENARIOS {
+        ask(&rt, "good.bin", scenario)?;
+    }
+    for plan in PLANS {
+        ask(&rt, plan, "day.txt")?;
+    }
     unmet(&rt)
 }

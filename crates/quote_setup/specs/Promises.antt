@@ -1,20 +1,19 @@
 -- What setting up a quote promises, of a plan's bytes and a scenario's text.
-use Rattle.std.specs.Prelude.{◌≡◌, false, List, ◌++◌, ℕ, suc, ◌≤◌, ◌<◌}
+use Rattle.std.specs.Prelude.{◌≡◌, false, List, ◌++◌, ℕ, suc, ◌≤◌, ◌<◌, Result, Ok, Err}
 use Rattle.refusal.specs.declared.Refusal.{Refusal}
 use Rattle.refusal.specs.Numbers.{number_of}
 use Rattle.rules.specs.Engine.{Post, Refused}
 use Rattle.plan_format.specs.Line.{line_of}
-use Rattle.engine_answers.specs.declared.OpenAnswer.{OpenAnswer}
-use Rattle.engine_answers.specs.declared.OpenAnswer.TheVariants.{Done, Refused as Unopened}
 use Rattle.engine_promises.specs.Promises.{Opens, Answered}
 use Rattle.scenario.specs.declared.Order.{Order}
 use Rattle.scenario.specs.Scenario.{Says, days_of, order_calls, has_read, first_readings, scenario_calls}
 use Rattle.scenario_posting.specs.Promises.{AllPosted, LineRefused}
-use Rattle.quote_setup.specs.declared.SetUpAnswer.{SetUpAnswer}
-use Rattle.quote_setup.specs.declared.SetUpAnswer.TheVariants.{Ready, Plan, Line, Reading}
+use Rattle.scenario_posting.specs.declared.LineRefused.{LineRefused as RefusedLine}
+use Rattle.quote_setup.specs.declared.SetUpError.{SetUpError}
+use Rattle.quote_setup.specs.declared.SetUpError.TheVariants.{Plan, Line, Reading}
 
 -- the opening answers o: at arity 16, with 4096 places and a leaf width in its range
-pub record OpensQuote (plan xs : List ℕ) (o : OpenAnswer) (ys : List ℕ) : Type 0 where
+pub record OpensQuote (plan xs : List ℕ) (o : Result Unit Refusal) (ys : List ℕ) : Type 0 where
   pub width : ℕ
   pub least : 1 ≤ width
   pub most : width ≤ 1048576
@@ -38,8 +37,8 @@ pub record RefusedReading (text : List ℕ) (n : ℕ) (e : Refusal) (xs ys : Lis
   pub refused : Answered (Post (suc station) 0 1 0) (Refused (number_of e)) ys ys
 
 -- of the plan, the scenario's text, the buffer xs at entry, the answer r and the buffer ys at exit
-pub record SetsUp (plan text xs : List ℕ) (r : SetUpAnswer) (ys : List ℕ) : Type 0 where
-  pub ready : (days : ℕ) → r ≡ Ready days → (zs : List ℕ) × OpensQuote plan xs Done zs × IsReady plan text days zs ys
-  pub unopened : (e : Refusal) → r ≡ Plan e → OpensQuote plan xs (Unopened e) ys
-  pub line : (k : ℕ) (e : Refusal) → r ≡ Line k e → (zs : List ℕ) × OpensQuote plan xs Done zs × LineRefused text k e zs ys
-  pub reading : (e : Refusal) → r ≡ Reading e → (zs : List ℕ) × OpensQuote plan xs Done zs × RefusedReading text (line_of plan).count e zs ys
+pub record SetsUp (plan text xs : List ℕ) (r : Result ℕ SetUpError) (ys : List ℕ) : Type 0 where
+  pub ready : (days : ℕ) → r ≡ Ok days → (zs : List ℕ) × OpensQuote plan xs (Ok tt) zs × IsReady plan text days zs ys
+  pub unopened : (e : Refusal) → r ≡ Err (Plan e) → OpensQuote plan xs (Err e) ys
+  pub line : (l : RefusedLine) → r ≡ Err (Line l) → (zs : List ℕ) × OpensQuote plan xs (Ok tt) zs × LineRefused text l.line l.refusal zs ys
+  pub reading : (e : Refusal) → r ≡ Err (Reading e) → (zs : List ℕ) × OpensQuote plan xs (Ok tt) zs × RefusedReading text (line_of plan).count e zs ys

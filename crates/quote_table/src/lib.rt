@@ -2,85 +2,72 @@
 
 #![tactic(auto)]
 
+ghost use Rattle.std.specs.Prelude.{◌+◌, ◌-◌, []};
+ghost use Rattle.plan_format.specs.Plan.{offset_of, length_of};
+ghost use Rattle.quote_table.specs.Names.{NamesStation};
+
 use line::State;
-use std::io;
-use text_writing::{append_byte, append_right, append_times, append_word};
+use std::{fmt, io};
 
-// How many spaces fill a column of 16 after so many bytes.
-fn spaces_after(bytes: usize) -> usize {
-    if bytes < 16 {
-        return 16 - bytes;
-    }
-    0
-}
-
-// A part of the plan at the left of a column of 16.
-fn append_left(line: &mut [u8], at: usize, plan: &[u8], first: usize, end: usize) -> usize {
-    if end < first {
-        return append_times(line, at, 32, 16);
-    }
-    if plan.len() < end {
-        return append_times(line, at, 32, 16);
-    }
-    let a = append_word(line, at, &plan[first..end]);
-    append_times(line, a, 32, spaces_after(end - first))
-}
-
-// A station's number, name and parent.
-fn append_station(line: &mut [u8], plan: &[u8], station: u16) -> usize {
-    let g = plan_format::config_at(plan, station);
+// The name of a station as text; none where the plan has no such bytes, or they are no text.
+pub fn name_of(plan: &[u8], station: u16) -> &str
+    ensures { NamesStation plan.now station result.now }
+{
     let offset = plan_format::offset_of(plan, station);
     let end = offset + plan_format::length_of(plan, station);
-    let a = append_right(line, 0, station as u64, 7);
-    let c = append_times(line, a, 32, 2);
-    let d = append_left(line, c, plan, offset + 26, end);
-    append_right(line, d, g.parent as u64, 7)
+    let part = plan.get(offset + 26..end).unwrap_or(&[]);
+    std::str::from_utf8(part).unwrap_or("")
 }
 
 // Frames lost, in tenths of a per cent of those that arrived; no number where none did.
-fn append_share(line: &mut [u8], at: usize, lost: u32, heard: u32) -> usize {
-    let arrived = heard as u64 + lost as u64;
-    if arrived == 0 {
-        return append_word(line, at, b"      -");
+#[derive(Clone, Copy)]
+struct Share {
+    lost: u32,
+    heard: u32,
+}
+
+impl fmt::Display for Share {
+    fn fmt<W: fmt::Write>(&self, f: &mut fmt::Formatter<W>) -> fmt::Result {
+        let arrived = u64::from(self.heard) + u64::from(self.lost);
+        if arrived == 0 {
+            return write!(f, "{:>7}", "-");
+        }
+        let share = 1000 * u64::from(self.lost) / arrived;
+        write!(f, "{:>5}.{}", share / 10, share % 10)
     }
-    let share = 1000 * (lost as u64) / arrived;
-    let a = append_right(line, at, share / 10, 5);
-    let c = append_byte(line, a, 46);
-    append_right(line, c, share % 10, 1)
 }
 
 // When a frame was last heard; no number where none was.
-fn append_last(line: &mut [u8], at: usize, s: State) -> usize {
-    if s.reached {
-        return append_right(line, at, s.last, 14);
+#[derive(Clone, Copy)]
+struct Last(Option<u64>);
+
+impl fmt::Display for Last {
+    fn fmt<W: fmt::Write>(&self, f: &mut fmt::Formatter<W>) -> fmt::Result {
+        match self.0 {
+            Some(time) => write!(f, "{time:>14}"),
+            None => write!(f, "{:>14}", "-"),
+        }
     }
-    append_word(line, at, b"             -")
-}
-
-fn append_state(line: &mut [u8], at: usize, s: State) -> usize {
-    let a = append_right(line, at, s.heard as u64, 11);
-    let c = append_right(line, a, s.lost as u64, 11);
-    let d = append_share(line, c, s.lost, s.heard);
-    let e = append_right(line, d, s.sent as u64, 11);
-    append_last(line, e, s)
-}
-
-fn put_on(rt: &impl Print, line: &mut [u8], plan: &[u8], station: u16, s: State) -> io::Result<()> {
-    let a = append_station(line, plan, station);
-    let c = append_state(line, a, s);
-    let n = append_byte(line, c, 10);
-    console::put(rt, line, n)
 }
 
 // A station of a plan, with its state.
 pub fn put_row(rt: &impl Print, plan: &[u8], station: u16, s: State) -> io::Result<()> {
-    let mut line = [0u8; 96];
-    put_on(rt, &mut line, plan, station, s)
+    let State {
+        heard,
+        lost,
+        sent,
+        ..
+    } = s;
+    let name = name_of(plan, station);
+    let parent = plan_format::config_at(plan, station).parent;
+    let share = Share { lost, heard };
+    let last = Last(s.reached.then_some(s.last));
+    println!(rt; "{station:>7}  {name:<16}{parent:>7}{heard:>11}{lost:>11}{share}{sent:>11}{last}")
 }
 
 // What the columns are.
 pub fn put_head(rt: &impl Print) -> io::Result<()> {
-    rt.write_all(
-        b"station  name             parent      heard       lost  lost%       sent    last heard\n",
+    println!(rt;
+        "station  name             parent      heard       lost  lost%       sent    last heard"
     )
 }

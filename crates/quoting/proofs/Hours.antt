@@ -1,11 +1,9 @@
 -- Hour by hour: each run to an hour's end is done, and the collector's record then goes into the table.
 use mathlib.Core.Path.{◌≡◌, refl, sym, ap, ◌∙◌, subst}
-use mathlib.Core.Logic.{◌≢◌, ◌⊎◌, inl, inr}
-use types.Run.{OneOf}
-use denote.Enum.Declared.{tag_of}
-use Rattle.engine_answers.specs.contracts.UntilAnswer as T
+use mathlib.Core.Logic.{◌≢◌}
 use mathlib.Core.List.{List, [], ◌∷◌, ◌++◌}
 use Prim.Native.Nat.{ℕ, ◌+◌, ◌*◌, ◌≤◌, ◌<◌}
+use Rattle.std.specs.Prelude.{Result, Ok, Err}
 use native.Mathlib.Omega.{arith}
 use lib.ListN.{length, get_or, set, length-set}
 use lib.Seq.{get_or-set_same, get_or-set_other}
@@ -16,13 +14,10 @@ use Rattle.refusal.specs.declared.Refusal.{Refusal}
 use Rattle.rules.specs.Engine.{Call, Record, Recorded}
 use Rattle.rules.specs.Demand.{Made, fed}
 use Rattle.plan_format.specs.Line.{line_of}
-use Rattle.engine_answers.specs.declared.RecordAnswer.{RecordAnswer}
-use Rattle.engine_answers.specs.declared.RecordAnswer.TheVariants as D
-use Rattle.engine_answers.specs.declared.UntilAnswer.{UntilAnswer}
-use Rattle.engine_answers.specs.declared.UntilAnswer.TheVariants as U
+use Rattle.engine_answers.specs.declared.UntilError.{UntilError}
 use Rattle.engine_promises.specs.Answers.{record_said}
 use Rattle.engine_promises.specs.Promises.{Answered}
-use Rattle.engine_until.specs.Promises.{Works, none, Reaches}
+use Rattle.engine_until.specs.Promises.{Works, none, Reaches, RunsUntil}
 use Rattle.engine_until.proofs.Joins.{works_join, reach_join}
 use Rattle.figure.specs.Figure.{StandsAt}
 use Rattle.figure.proofs.Fed.{works_chain, chain_join, works_feed_nothing}
@@ -34,8 +29,8 @@ use Rattle.quoting.proofs.PostsFed.{posts_made, posts_feed}
 
 -- ---- the table
 
-module _ (hour : ℕ) (ts : List ℕ) {ys : List ℕ} (r : RecordAnswer) (A : Answered (Record 0) (record_said r) ys ys) (size : 2 * hour + 1 < length ts) where
-  pub noted : {s : State} → r ≡ D.Done s → Notes hour ys ts (set (set ts (2 * hour) s.heard) (2 * hour + 1) s.lost)
+module _ (hour : ℕ) (ts : List ℕ) {ys : List ℕ} (r : Result State Refusal) (A : Answered (Record 0) (record_said r) ys ys) (size : 2 * hour + 1 < length ts) where
+  pub noted : {s : State} → r ≡ Ok s → Notes hour ys ts (set (set ts (2 * hour) s.heard) (2 * hour + 1) s.lost)
   noted {s} e = record {
     room = size;
     table = λ st f.
@@ -44,7 +39,7 @@ module _ (hour : ℕ) (ts : List ℕ) {ys : List ℕ} (r : RecordAnswer) (A : An
         ap (λ (x : State). set (set ts (2 * hour) x.heard) (2 * hour + 1) x.lost) k;
   }
 
-  pub unnoted : {e : Refusal} → r ≡ D.Refused e → Notes hour ys ts ts
+  pub unnoted : {e : Refusal} → r ≡ Err e → Notes hour ys ts ts
   unnoted {e} w = record {
     room = size;
     table = λ st f.
@@ -55,7 +50,7 @@ module _ (hour : ℕ) (ts : List ℕ) {ys : List ℕ} (r : RecordAnswer) (A : An
 
 -- ---- one hour more
 
-module _ {h : ℕ} {xs os ys ps ts zs qs us : List ℕ} {calls : List Made} (w : Works xs os calls ys ps) (before : HoursAre h xs ys ts) (R : RunsHour h ys ps ts U.Done zs qs us)
+module _ {h : ℕ} {xs os ys ps ts zs qs us : List ℕ} {calls : List Made} (w : Works xs os calls ys ps) (before : HoursAre h xs ys ts) (R : RunsHour h ys ps ts (Ok tt) zs qs us)
   where
     size : 2 * h + 1 < length ts
     size = (R.notes refl).room
@@ -117,18 +112,6 @@ module _ {h : ℕ} {xs os ys ps ts zs qs us : List ℕ} {calls : List Made} (w :
 
 -- ---- all hours
 
--- the run is not done
-pub not_done : (u : UntilAnswer) → OneOf (1 ∷ 2 ∷ 3 ∷ []) (tag_of T.the_type u) → u ≡ U.Done → ⊥
-not_done U.Done o e = none o
-  where
-    none : ◌≡◌ {A = ℕ} 0 1 ⊎ (◌≡◌ {A = ℕ} 0 2 ⊎ ◌≡◌ {A = ℕ} 0 3) → ⊥
-    none (inl z) = absurd (omega (arith, z))
-    none (inr (inl z)) = absurd (omega (arith, z))
-    none (inr (inr z)) = absurd (omega (arith, z))
-not_done (U.Refused r) o e = let z : ◌≡◌ {A = ℕ} 0 1 = cc in absurd (omega arith)
-not_done (U.Busy t) o e = let z : ◌≡◌ {A = ℕ} 0 1 = cc in absurd (omega arith)
-not_done U.Unfinished o e = let z : ◌≡◌ {A = ℕ} 0 1 = cc in absurd (omega arith)
-
 -- the first h hours are run
 pub record HoursRun (h : ℕ) (xs os ys ps ts : List ℕ) : Type 0 where
   pub calls : List Made
@@ -144,8 +127,8 @@ none_run = record {
   are = record { stands = λ plan cs B l. absurd (omega (arith, l)); hours = λ plan cs B k l. absurd (omega (arith, l)) };
 }
 
-module _ {h : ℕ} {xs os ys ps ts zs qs us : List ℕ} {u : UntilAnswer} (H : HoursRun h xs os ys ps ts) (R : RunsHour h ys ps ts u zs qs us) where
-  pub one_run : u ≡ U.Done → HoursRun (h + 1) xs os zs qs us
+module _ {h : ℕ} {xs os ys ps ts zs qs us : List ℕ} {r : Result Unit UntilError} (H : HoursRun h xs os ys ps ts) (R : RunsHour h ys ps ts r zs qs us) where
+  pub one_run : r ≡ Ok tt → HoursRun (h + 1) xs os zs qs us
   one_run e =
       let D = subst (λ a. RunsHour h ys ps ts a zs qs us) e R in
       record {
@@ -155,11 +138,22 @@ module _ {h : ℕ} {xs os ys ps ts zs qs us : List ℕ} {u : UntilAnswer} (H : H
         are = hour_more H.works H.are D;
       }
 
-  pub not_run : {hours : ℕ} → h < hours → (u ≡ U.Done → ⊥) → RunsHours hours xs os u zs qs us
-  not_run l n = record {
-    done = λ e. absurd (n e);
-    stopped = λ _. record { hour = h; within = l; calls = H.calls; before = ys; output = ps; works = H.works; reached = H.reached; until = R.until };
+  pub not_run : {hours : ℕ} {u : UntilError} → h < hours → r ≡ Err u → RunsHours hours xs os (Err u) zs qs us
+  not_run {hours} {u} l n = record {
+    done = λ e. cc;
+    stopped = λ v e.
+        let b : u ≡ v = cc in
+        record {
+          hour = h;
+          within = l;
+          calls = H.calls;
+          before = ys;
+          output = ps;
+          works = H.works;
+          reached = H.reached;
+          until = subst (λ a. RunsUntil (3600000 * (h + 1)) 18446744073709551615 ys ps a zs qs) (n ∙ ap Err b) R.until;
+        };
   }
 
-pub all_run : {h hours : ℕ} {xs os ys ps ts : List ℕ} → h ≡ hours → HoursRun h xs os ys ps ts → RunsHours hours xs os U.Done ys ps ts
-all_run {h} {hours} {xs} {os} {ys} {ps} {ts} e H = record { done = λ _. subst (λ (n : ℕ). HoursAre n xs ys ts) e H.are; stopped = λ n. absurd (n refl) }
+pub all_run : {h hours : ℕ} {xs os ys ps ts : List ℕ} → h ≡ hours → HoursRun h xs os ys ps ts → RunsHours hours xs os (Ok tt) ys ps ts
+all_run {h} {hours} {xs} {os} {ys} {ps} {ts} e H = record { done = λ _. subst (λ (n : ℕ). HoursAre n xs ys ts) e H.are; stopped = λ u n. cc }

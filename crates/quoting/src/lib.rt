@@ -2,26 +2,38 @@
 
 #![tactic(auto)]
 
-ghost use Rattle.std.specs.Prelude.{◌≤◌, ◌<◌, length};
+ghost use Rattle.std.specs.Prelude.{◌≡◌, ◌≤◌, ◌<◌, length};
 ghost use Rattle.quoting.specs.Promises.{Quotes};
-ghost use Rattle.quoting.specs.Steps.{Notes, RunsHour, RunsHours, Concludes};
+ghost use Rattle.quoting.specs.declared.QuoteError.TheVariants.{SetUp, Stopped};
+ghost use Rattle.quoting.specs.Steps.{Notes, RunsHour, RunsHours};
 
-use engine::RecordAnswer;
-use engine_answers::UntilAnswer;
-use quote_setup::SetUpAnswer;
-use refusal::Refusal;
+use engine_answers::UntilError;
+use quote_setup::SetUpError;
 use std::rt::Clock;
 
-// Done for so many days. Else there is no figure: the table has fewer than 17568 numbers, and then nothing is done; or the opening is refused; or a line of
-// the scenario, counted from 1; or a reading at 0, where no line asks for one; or the run to an hour did not come to it.
+// Why there is no figure: the table has fewer than 17568 numbers, and then nothing is done; or the quote isn't set up; or the run to an hour did not come to
+// it.
 #[derive(Clone, Copy)]
-pub enum QuoteAnswer {
-    Done { days: u64 },
+pub enum QuoteError {
     Short,
-    Plan(Refusal),
-    Line { line: u64, refusal: Refusal },
-    Reading(Refusal),
-    Stopped(UntilAnswer),
+    SetUp(SetUpError),
+    Stopped(UntilError),
+}
+
+impl From<SetUpError> for QuoteError {
+    ghost from_gives = { λ e q. q ≡ SetUp e };
+
+    fn from(e: SetUpError) -> QuoteError {
+        QuoteError::SetUp(e)
+    }
+}
+
+impl From<UntilError> for QuoteError {
+    ghost from_gives = { λ u q. q ≡ Stopped u };
+
+    fn from(u: UntilError) -> QuoteError {
+        QuoteError::Stopped(u)
+    }
 }
 
 // Two numbers an hour, of 366 days.
@@ -32,7 +44,7 @@ fn note(b: &[u8], hour: u64, table: &mut [u32])
     requires { (hour < 8784) × (17568 ≤ length table.old) }
     ensures { Notes hour b.now table.old table.new }
 {
-    let RecordAnswer::Done(s) = engine::record(b, 0) else {
+    let Ok(s) = engine::record(b, 0) else {
         return;
     };
     let i = 2 * hour as usize;
@@ -41,18 +53,13 @@ fn note(b: &[u8], hour: u64, table: &mut [u32])
 }
 
 // The run to the end of an hour.
-fn run_hour(b: &mut [u8], hour: u64, out: &mut [u8], table: &mut [u32]) -> UntilAnswer
+fn run_hour(b: &mut [u8], hour: u64, out: &mut [u8], table: &mut [u32]) -> Result<(), UntilError>
     requires { (hour < 8784) × (17568 ≤ length table.old) }
     ensures { RunsHour hour b.old out.old table.old result b.new out.new table.new }
 {
-    let u = engine_until::run_until(b, 3600000 * (hour + 1), u64::MAX, out);
-    match u {
-        UntilAnswer::Done => {
-            note(b, hour, table);
-            u
-        }
-        _ => u,
-    }
+    engine_until::run_until(b, 3600000 * (hour + 1), u64::MAX, out)?;
+    note(b, hour, table);
+    Ok(())
 }
 
 // The run to the end of each of so many hours.
@@ -62,35 +69,19 @@ fn run_hours(
     hours: u64,
     out: &mut [u8],
     table: &mut [u32],
-) -> UntilAnswer
+) -> Result<(), UntilError>
     requires { (hours ≤ 8784) × (17568 ≤ length table.old) }
     ensures { RunsHours hours b.old out.old result b.new out.new table.new }
 {
-    let mut hour: u64 = 0;
     let mut watch = quote_progress::start();
-    while hour < hours {
-        let u = run_hour(b, hour, out, table);
-        match u {
-            UntilAnswer::Done => {}
-            _ => return u,
-        }
+    for hour in 0..hours {
+        run_hour(b, hour, out, table)?;
         watch = quote_progress::tell(rt, watch, hour, hours);
-        hour += 1;
     }
-    UntilAnswer::Done
+    Ok(())
 }
 
-// What a quote answers of its run for so many days.
-fn answered(u: UntilAnswer, days: u64) -> QuoteAnswer
-    ensures { Concludes u days result }
-{
-    match u {
-        UntilAnswer::Done => QuoteAnswer::Done { days },
-        _ => QuoteAnswer::Stopped(u),
-    }
-}
-
-// The plan's line is run by the scenario for its days. An engine of 256 stations and 4096 events needs 1146880 bytes, and an output that has room for every
+// The plan's line is run by the scenario for its days, which are answered. An engine of 256 stations and 4096 events needs 1146880 bytes, and an output that has room for every
 // commit 98304. Where the quote is done, `engine::record` tells of the buffer what each station has counted.
 pub fn quote(
     rt: &(impl Clock + Eprint),
@@ -99,16 +90,13 @@ pub fn quote(
     b: &mut [u8],
     out: &mut [u8],
     table: &mut [u32],
-) -> QuoteAnswer
+) -> Result<u64, QuoteError>
     ensures { Quotes plan.now text.now b.old out.old table.old result b.new out.new table.new }
 {
     if table.len() < TABLE {
-        return QuoteAnswer::Short;
+        return Err(QuoteError::Short);
     }
-    match quote_setup::set_up(plan, text, b) {
-        SetUpAnswer::Ready { days } => answered(run_hours(rt, b, 24 * days, out, table), days),
-        SetUpAnswer::Plan(e) => QuoteAnswer::Plan(e),
-        SetUpAnswer::Line { line, refusal } => QuoteAnswer::Line { line, refusal },
-        SetUpAnswer::Reading(e) => QuoteAnswer::Reading(e),
-    }
+    let days = quote_setup::set_up(plan, text, b)?;
+    run_hours(rt, b, 24 * days, out, table)?;
+    Ok(days)
 }

@@ -1,3 +1,4 @@
 pub mod Orders
 pub mod Promises
 pub mod Scenario
+pub mod Steps

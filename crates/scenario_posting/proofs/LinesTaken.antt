@@ -9,6 +9,7 @@ use lib.Dec.{ltb}
 use lib.ListN.{length, get_or, take, drop, length-append, length-drop, take-append-drop, drop_of_length-le}
 use lib.Seq.{take_all, take-suc, take-add, get_or-take, get_or-drop, drop-cons, drop-drop, length-take-le}
 use borrow.Author.Tests.{ltb-true, ltb-false}
+use Rattle.std.specs.Prelude.{Result, Ok, Err}
 use Rattle.refusal.specs.declared.Refusal.{Refusal}
 use Rattle.refusal.specs.Numbers.{number_of}
 use Rattle.rules.specs.Engine.{Refused}
@@ -19,9 +20,8 @@ use Rattle.scenario.specs.Orders.{order_line, FitsOrder}
 use Rattle.scenario.proofs.Lines.{order_lines_snoc, order_calls_snoc, days_from_snoc, has_read_snoc}
 use Rattle.scenario.proofs.Lines as Of
 use Rattle.scenario.specs.Scenario.{order_lines, AllFit, days_in, days_from, days_of, order_calls, is_read, has_read}
-use Rattle.scenario_posting.specs.declared.Taken.{Taken}
-use Rattle.scenario_posting.specs.declared.Taken.TheVariants as T
-use Rattle.scenario_posting.specs.declared.LinesAnswer.TheVariants as L
+use Rattle.scenario_posting.specs.declared.Asked.{Asked}
+use Rattle.scenario_posting.specs.declared.LineRefused.{LineRefused as RefusedLine}
 use Rattle.scenario_posting.specs.Promises.{AllPosted, none, FirstLine, NoOrder, PostRefused, AllTaken, LineRefused, TakesLines}
 use Rattle.scenario_posting.specs.Steps.{EndsLine, next_line, IsOrder, Unread, RefusesOrder, OrderObeyed, TakesLine}
 use Rattle.scenario_posting.proofs.Posts.{posted_join}
@@ -121,7 +121,7 @@ module _ {text : List ℕ} {from k days : ℕ} {read : Bool} {xs ys : List ℕ} 
         go (inl e) = e
         go (inr e) = absurd (omega (arith, e.0))
 
-    module _ {end : ℕ} (E : EndsLine text from end) {r : Taken} {zs : List ℕ} (K : TakesLine days read (part from end text) ys r zs) where
+    module _ {end : ℕ} (E : EndsLine text from end) {r : Result Asked Refusal} {zs : List ℕ} (K : TakesLine days read (part from end text) ys r zs) where
       -- the text up to the line's end
       joined : {o : Order} → IsOrder o (part from end text) → take end text ≡ order_lines B.orders ++ order_line o
       joined {o} i = up_to E ∙ ap (λ (a : List ℕ). a ++ part from end text) so_far ∙ ap (λ (a : List ℕ). order_lines B.orders ++ a) i.line_is
@@ -162,10 +162,11 @@ module _ {text : List ℕ} {from k days : ℕ} {read : Bool} {xs ys : List ℕ} 
           go true e = omega (arith, ltb-true end (length text) e)
           go false e = E.within
 
-      pub line_on : {d : ℕ} {b : Bool} → r ≡ T.On d b → Begun text (next_line end (length text)) (k + 1) d b xs zs
-      line_on {d} {b} q = on (K.on d b q)
+      pub line_on : {a : Asked} → r ≡ Ok a → Begun text (next_line end (length text)) (k + 1) a.days a.read xs zs
+      line_on {a} q = on (K.on a q)
         where
-          on : (o : Order) × IsOrder o (part from end text) × OrderObeyed days read o ys d b zs → Begun text (next_line end (length text)) (k + 1) d b xs zs
+          on : (o : Order) × IsOrder o (part from end text) × OrderObeyed days read o ys a.days a.read zs
+              → Begun text (next_line end (length text)) (k + 1) a.days a.read xs zs
           on w =
               let o : Order = w.0 in
               record {
@@ -196,7 +197,7 @@ module _ {text : List ℕ} {from k days : ℕ} {read : Bool} {xs ys : List ℕ} 
       left : drop from text ≢ []
       left e = let z : length (drop from text) ≡ 0 = ap length e in absurd (omega (arith, length-drop from text, z, l))
 
-      pub line_refused : {e : Refusal} → r ≡ T.Refused e → LineRefused text (k + 1) e xs zs
+      pub line_refused : {e : Refusal} → r ≡ Err e → LineRefused text (k + 1) e xs zs
       line_refused {e} q = go (K.refused e q)
         where
           go : Unread (part from end text) e ys zs ⊎ ((o : Order) × IsOrder o (part from end text) × RefusesOrder o e ys zs) → LineRefused text (k + 1) e xs zs
@@ -225,20 +226,14 @@ later {text} {from} {end} l E = go (ltb end (length text)) refl
     go true e = omega (arith, E.after)
     go false e = omega (arith, ltb-false end (length text) e, l)
 
-pub lines_all : {text xs ys : List ℕ} {days : ℕ} {read : Bool} → AllTaken text days read xs ys → TakesLines text xs (L.Taken days read) ys
-lines_all {text} {xs} {ys} {days} {read} a = record {
-  all = λ d b q.
-      let j : days ≡ d = cc in
-      let h : read ≡ b = cc in
-      subst (λ n. AllTaken text n b xs ys) j (subst (λ c. AllTaken text days c xs ys) h a);
-  refused = λ k e q. let z : ◌≡◌ {A = ℕ} 0 1 = cc in absurd (omega arith);
+pub lines_all : {text xs ys : List ℕ} {a : Asked} → AllTaken text a.days a.read xs ys → TakesLines text xs (Ok a) ys
+lines_all {text} {xs} {ys} {a} t = record {
+  all = λ b q. let h : a ≡ b = cc in subst (λ (c : Asked). AllTaken text c.days c.read xs ys) h t;
+  refused = λ l q. cc;
 }
 
-pub lines_refused : {text xs ys : List ℕ} {k : ℕ} {e : Refusal} → LineRefused text k e xs ys → TakesLines text xs (L.Refused k e) ys
-lines_refused {text} {xs} {ys} {k} {e} a = record {
-  all = λ d b q. let z : ◌≡◌ {A = ℕ} 0 1 = cc in absurd (omega arith);
-  refused = λ n f q.
-      let j : k ≡ n = cc in
-      let h : e ≡ f = cc in
-      subst (λ m. LineRefused text m f xs ys) j (subst (λ g. LineRefused text k g xs ys) h a);
+pub lines_refused : {text xs ys : List ℕ} {l : RefusedLine} → LineRefused text l.line l.refusal xs ys → TakesLines text xs (Err l) ys
+lines_refused {text} {xs} {ys} {l} t = record {
+  all = λ b q. cc;
+  refused = λ m q. let h : l ≡ m = cc in subst (λ (n : RefusedLine). LineRefused text n.line n.refusal xs ys) h t;
 }

@@ -1,5 +1,5 @@
 -- What obeying a scenario's lines promises.
-use Rattle.std.specs.Prelude.{◌≡◌, ◌≢◌, ◌⊎◌, Bool, false, List, [], ◌∷◌, ◌++◌, ℕ, ◌+◌, length}
+use Rattle.std.specs.Prelude.{◌≡◌, ◌≢◌, ◌⊎◌, Bool, false, List, [], ◌∷◌, ◌++◌, ℕ, ◌+◌, length, Result, Ok, Err}
 use Rattle.refusal.specs.declared.Refusal.{Refusal}
 use Rattle.refusal.specs.declared.Refusal.TheVariants.{Command}
 use Rattle.refusal.specs.Numbers.{number_of}
@@ -11,13 +11,13 @@ use Rattle.engine_promises.specs.Promises.{Answered}
 use Rattle.scenario.specs.declared.Order.{Order}
 use Rattle.scenario.specs.Orders.{order_line, FitsOrder}
 use Rattle.scenario.specs.Scenario.{order_lines, AllFit, Says, days_of, calls_in, order_calls, has_read}
-use Rattle.scenario_posting.specs.declared.LinesAnswer.{LinesAnswer}
-use Rattle.scenario_posting.specs.declared.LinesAnswer.TheVariants as L
+use Rattle.scenario_posting.specs.declared.Asked.{Asked}
+use Rattle.scenario_posting.specs.declared.LineRefused.{LineRefused as RefusedLine}
 
 -- posts, all accepted, take the buffer from xs to ys
 pub data AllPosted : List ℕ → List Call → List ℕ → Type 0 where
   none : {xs : List ℕ} → AllPosted xs [] xs
-  more : {xs ys zs : List ℕ} {cs : List Call} {s t kind value : ℕ} (r : PostAnswer) → AllPosted xs cs ys
+  more : {xs ys zs : List ℕ} {cs : List Call} {s t kind value : ℕ} (r : Result PostAnswer Refusal) → AllPosted xs cs ys
       → Answered (Post s t kind value) (post_said r) ys zs
       → is_refused (post_said r) ≡ false
       → AllPosted xs (cs ++ (Post s t kind value ∷ [])) zs
@@ -64,6 +64,6 @@ pub record LineRefused (text : List ℕ) (line : ℕ) (e : Refusal) (xs ys : Lis
   pub reason : NoOrder rest e ⊎ PostRefused rest e ys
 
 -- of the text, the engine's buffer xs at entry, the answer r and the buffer ys at exit
-pub record TakesLines (text xs : List ℕ) (r : LinesAnswer) (ys : List ℕ) : Type 0 where
-  pub all : (d : ℕ) (b : Bool) → r ≡ L.Taken d b → AllTaken text d b xs ys
-  pub refused : (k : ℕ) (e : Refusal) → r ≡ L.Refused k e → LineRefused text k e xs ys
+pub record TakesLines (text xs : List ℕ) (r : Result Asked RefusedLine) (ys : List ℕ) : Type 0 where
+  pub all : (a : Asked) → r ≡ Ok a → AllTaken text a.days a.read xs ys
+  pub refused : (l : RefusedLine) → r ≡ Err l → LineRefused text l.line l.refusal xs ys

@@ -1,17 +1,14 @@
 -- What the private steps of obeying a line ensure.
-use Rattle.std.specs.Prelude.{◌≡◌, ◌≢◌, ◌⊎◌, Bool, cond, ◌||◌, List, [], ◌∷◌, ℕ, ◌+◌, ◌≤◌, ◌<◌, ltb, length, get_or}
+use Rattle.std.specs.Prelude.{◌≡◌, ◌≢◌, ◌⊎◌, Bool, cond, ◌||◌, List, [], ◌∷◌, ℕ, ◌+◌, ◌≤◌, ◌<◌, ltb, length, get_or, Result, Ok, Err}
 use Rattle.refusal.specs.declared.Refusal.{Refusal}
 use Rattle.refusal.specs.declared.Refusal.TheVariants.{Command}
 use Rattle.refusal.specs.Numbers.{number_of}
 use Rattle.rules.specs.Engine.{Call, Refused}
-use Rattle.engine_answers.specs.declared.PostAnswer.{PostAnswer}
-use Rattle.engine_answers.specs.declared.PostAnswer.TheVariants as P
 use Rattle.engine_promises.specs.Promises.{Answered}
 use Rattle.scenario.specs.declared.Order.{Order}
 use Rattle.scenario.specs.Orders.{order_line, FitsOrder}
 use Rattle.scenario.specs.Scenario.{days_in, calls_in, is_read}
-use Rattle.scenario_posting.specs.declared.Taken.{Taken}
-use Rattle.scenario_posting.specs.declared.Taken.TheVariants as T
+use Rattle.scenario_posting.specs.declared.Asked.{Asked}
 use Rattle.scenario_posting.specs.Promises.{AllPosted}
 
 -- ---- lines
@@ -41,14 +38,9 @@ pub record RefusesOrder (o : Order) (e : Refusal) (xs ys : List ℕ) : Type 0 wh
   pub asks : calls_in o ≡ call ∷ []
   pub refused : Answered call (Refused (number_of e)) xs xs
 
--- what is taken of a post's answer
-abbrev pub taken_from : ℕ → Bool → PostAnswer → Taken
-taken_from days read (P.Done number undone) = T.On days read
-taken_from days read (P.Refused e) = T.Refused e
-
-pub record TakesOrder (days : ℕ) (read : Bool) (o : Order) (xs : List ℕ) (r : Taken) (ys : List ℕ) : Type 0 where
-  pub on : (d : ℕ) (b : Bool) → r ≡ T.On d b → OrderObeyed days read o xs d b ys
-  pub refused : (e : Refusal) → r ≡ T.Refused e → RefusesOrder o e xs ys
+pub record TakesOrder (days : ℕ) (read : Bool) (o : Order) (xs : List ℕ) (r : Result Asked Refusal) (ys : List ℕ) : Type 0 where
+  pub on : (a : Asked) → r ≡ Ok a → OrderObeyed days read o xs a.days a.read ys
+  pub refused : (e : Refusal) → r ≡ Err e → RefusesOrder o e xs ys
 
 -- ---- a line
 
@@ -62,6 +54,6 @@ pub record Unread (line : List ℕ) (e : Refusal) (xs ys : List ℕ) : Type 0 wh
   pub none : (o : Order) → FitsOrder o → line ≡ order_line o → ⊥
   pub number : e ≡ Command
 
-pub record TakesLine (days : ℕ) (read : Bool) (line xs : List ℕ) (r : Taken) (ys : List ℕ) : Type 0 where
-  pub on : (d : ℕ) (b : Bool) → r ≡ T.On d b → (o : Order) × IsOrder o line × OrderObeyed days read o xs d b ys
-  pub refused : (e : Refusal) → r ≡ T.Refused e → Unread line e xs ys ⊎ ((o : Order) × IsOrder o line × RefusesOrder o e xs ys)
+pub record TakesLine (days : ℕ) (read : Bool) (line xs : List ℕ) (r : Result Asked Refusal) (ys : List ℕ) : Type 0 where
+  pub on : (a : Asked) → r ≡ Ok a → (o : Order) × IsOrder o line × OrderObeyed days read o xs a.days a.read ys
+  pub refused : (e : Refusal) → r ≡ Err e → Unread line e xs ys ⊎ ((o : Order) × IsOrder o line × RefusesOrder o e xs ys)

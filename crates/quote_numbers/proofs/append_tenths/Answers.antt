@@ -1,5 +1,4 @@
 -- The whole, the point, the tenth.
-use borrow.Author.Rules.{rules}
 use Rattle.text_writing.proofs.Appending.{appends_join}
 use Rattle.quote_numbers.specs.Tenths.{tenths}
 use Rattle.quote_numbers.proofs.append_tenths.Goals as goal

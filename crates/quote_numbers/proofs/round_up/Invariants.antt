@@ -1,8 +1,6 @@
 -- Each power of ten is tried in turn.
-use mathlib.Core.Path.{◌∙◌}
 use Prim.Native.Nat.{◌-◌}
-use native.Mathlib.Omega.{arith}
-use Rattle.quote_numbers.proofs.Rounding.{Tried, at_first, found, next, last}
+use Rattle.quote_numbers.proofs.Rounding.{Tried}
 use Rattle.quote_numbers.proofs.round_up.Given as goal
 
 abbrev pub invariant-loop-power : goal.invariant-loop-power

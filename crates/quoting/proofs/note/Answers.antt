@@ -18,4 +18,4 @@ pub returns : goal.returns
 returns c =
     let given = c.args in
     let the-record = c.«record» in
-    noted given.hour given.table.now the-record.result the-record.ensures (omega arith) c.in-Done.is
+    noted given.hour given.table.now the-record.result the-record.ensures (omega arith) c.in-Ok.is

@@ -1,18 +1,6 @@
--- The word says which order a line can be, and without one of the three words it is none.
-use borrow.Author.Rules.{rules}
-use Rattle.scenario.proofs.Taking.{refuses_words}
+-- A line that is no order is refused.
+use Rattle.scenario.proofs.Taking.{reads}
 use Rattle.scenario.proofs.order_of.Goals as goal
 
-pub days_order-requires : goal.days_order-requires
-days_order-requires c = c.begins.ensures.begun c.if-begins.true
-
-pub read_order-requires : goal.read_order-requires
-read_order-requires c = c.begins-2.ensures.begun c.if-begins-2.true
-
-pub level_order-requires : goal.level_order-requires
-level_order-requires c = c.begins-3.ensures.begun c.if-begins-3.true
-
 pub returns : goal.returns
-returns c =
-    refuses_words _ (c.begins.ensures.other c.if-begins.false) (c.begins-2.ensures.other c.if-begins-2.false)
-    (c.begins-3.ensures.other c.if-begins-3.false)
+returns c = reads _ _ _ c.find_order.ensures c.ok_or.ensures.value

@@ -1,5 +1,4 @@
 -- One more where a byte ends the line.
-use borrow.Author.Rules.{rules}
 use borrow.Author.Tests.{lt-ltb, le-ltb}
 use Rattle.scenario_posting.proofs.after_line.Goals as goal
 

@@ -1,20 +1,12 @@
 -- By the order.
-use borrow.Author.Rules.{rules}
 use Rattle.scenario_posting.proofs.OrdersTaken.{takes_days, takes_read, takes_level}
 use Rattle.scenario_posting.proofs.take_order.Goals as goal
 
--- src/lib.rt:57:1
 pub returns-in-Days : goal.returns-in-Days
 returns-in-Days c = takes_days c.in-Days.is
 
--- src/lib.rt:57:1
-pub returns-in-Read : goal.returns-in-Read
-returns-in-Read c =
-    let post = c.post in
-    takes_read post.result c.in-Read.is post.ensures c.posted.ensures
+pub returns-in_ok-post-in-Read : goal.returns-in_ok-post-in-Read
+returns-in_ok-post-in-Read c = takes_read c.in-Read.is c.in_ok-post-in-Read.was c.post.ensures
 
--- src/lib.rt:57:1
-pub returns-in-Level : goal.returns-in-Level
-returns-in-Level c =
-    let post2 = c.post-in-Level in
-    takes_level post2.result c.in-Level.is post2.ensures c.posted-in-Level.ensures
+pub returns-in_ok-post-in-Level : goal.returns-in_ok-post-in-Level
+returns-in_ok-post-in-Level c = takes_level c.in-Level.is c.in_ok-post-in-Level.was c.post-in-Level.ensures
