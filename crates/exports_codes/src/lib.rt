@@ -2,7 +2,7 @@
 
 #![tactic(auto)]
 
+pub mod answer_codes;
 pub mod calendar_codes;
 pub mod engine_codes;
 pub mod plan_codes;
-mod refusal_values;
