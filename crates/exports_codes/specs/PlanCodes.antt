@@ -10,6 +10,11 @@ abbrev pub count_values : Result ℕ Refusal → List ℕ → List ℕ
 count_values (Ok n) old = set old 0 n
 count_values (Err e) old = first_or (stations_of e) old
 
+-- a place by its two numbers
+abbrev pub placing : Result (ℕ × ℕ) Refusal → Result Place Refusal
+placing (Ok w) = Ok (record { at = w.0; len = w.1 })
+placing (Err e) = Err e
+
 -- the name's first byte, and its length
 abbrev pub name_values : Result Place Refusal → List ℕ → List ℕ
 name_values (Ok w) old = set (set old 0 w.at) 1 w.len
