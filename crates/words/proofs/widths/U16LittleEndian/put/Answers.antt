@@ -2,7 +2,7 @@
 use Prim.Native.Nat.{◌/◌, ◌%◌}
 use native.Mathlib.Omega.{arith}
 use Rattle.words.proofs.Halves.{put_joined, put_byte}
-use Rattle.words.proofs.U16LittleEndian.put.Goals as goal
+use Rattle.words.proofs.widths.U16LittleEndian.put.Goals as goal
 
 pub returns : goal.returns
 returns c =
