@@ -11,7 +11,7 @@ use Rattle.rules.specs.Engine.{Setting, Commit}
 use Rattle.entry.specs.Entry.{entries}
 use Rattle.engine_index.specs.Represents.{Cell, has_run}
 use Rattle.engine_events.specs.Represents.{held_of, Holds}
-use Rattle.engine_promises.specs.Steps.{at_most, Judges}
+use Rattle.engine_promises.specs.Steps.{at_most, JudgesAndFinds}
 use Rattle.engine_committing.specs.declared.Front.{Front}
 
 -- does an unrun event lie before the time?
@@ -56,4 +56,4 @@ pub record CommitPasses (n c time count room : ℕ) (xs : List ℕ) : Type 0 whe
 -- of each output of so many bytes
 abbrev pub JudgesCommit : ℕ → ℕ → List ℕ → Result Front Refusal → Type 0
 JudgesCommit time room xs r =
-    (output : List ℕ) → length output ≡ room → Judges (Commit time output) xs r (λ f. CommitPasses f.n f.c time f.count room xs)
+    (output : List ℕ) → length output ≡ room → JudgesAndFinds (Commit time output) xs r (λ f. CommitPasses f.n f.c time f.count room xs)

@@ -18,7 +18,7 @@ use Rattle.engine_index.specs.Represents.{Cell, cell}
 use Rattle.engine_events.specs.Represents.{Has, Holds}
 use Rattle.engine_promises.specs.Represents.{Represents}
 use Rattle.engine_promises.specs.Promises.{Becomes}
-use Rattle.engine_promises.specs.Steps.{Judges, Numbered}
+use Rattle.engine_promises.specs.Steps.{JudgesAndFinds, Numbered}
 use Rattle.engine_posting.specs.declared.NewPost.{NewPost}
 use Rattle.engine_posting.specs.declared.HeldPost.{HeldPost}
 
@@ -47,7 +47,7 @@ pub record PostIs (p : Plan) (e : Engine) (n c s t kind value : ℕ) (x : Event)
 
 abbrev pub JudgesPost : ℕ → ℕ → ℕ → ℕ → List ℕ → Result NewPost Refusal → Type 0
 JudgesPost s t kind value xs r =
-    Judges (Post s t kind value) xs r (λ f. (p : Plan) (e : Engine) → Represents p e xs → PostIs p e f.n f.c s t kind value f.event)
+    JudgesAndFinds (Post s t kind value) xs r (λ f. (p : Plan) (e : Engine) → Represents p e xs → PostIs p e f.n f.c s t kind value f.event)
 
 -- the event of an accepted post is added
 abbrev pub AddsPost : ℕ → ℕ → Event → List ℕ → ℕ → List ℕ → Type 0
@@ -56,4 +56,4 @@ AddsPost n c x xs undone ys =
     → PostIs p e n c s t kind value x → Becomes p e (Post s t kind value) (Posted e.next undone) ys
 
 abbrev pub JudgesRetract : ℕ → List ℕ → Result HeldPost Refusal → Type 0
-JudgesRetract number xs r = Judges (Retract number) xs r (λ f. Numbered f.n f.c xs × FindsPost f.n f.c number xs (Some f.node))
+JudgesRetract number xs r = JudgesAndFinds (Retract number) xs r (λ f. Numbered f.n f.c xs × FindsPost f.n f.c number xs (Some f.node))

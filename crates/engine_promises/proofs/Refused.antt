@@ -13,7 +13,7 @@ use Rattle.rules.specs.Checks.{checks}
 use Rattle.rules.specs.Calls.{refuse}
 use Rattle.engine_promises.specs.Represents.{Represents}
 use Rattle.engine_promises.specs.Promises.{Becomes, Answered}
-use Rattle.engine_promises.specs.Steps.{JudgesCall, Judges}
+use Rattle.engine_promises.specs.Steps.{JudgesCall, JudgesAndFinds}
 
 module _ {xs : List ℕ} (call : Call) where
   pub refused_so : {p : Plan} {e : Engine} (k : ℕ) → Represents p e xs → judged (checks p e call) ≡ refused k → Becomes p e call (Refused k) xs
@@ -24,10 +24,10 @@ module _ {xs : List ℕ} (call : Call) where
 
   -- a judging refuses, and so does its call
   module _ {A : Type 0} {IsSo : A → Type 0} where
-    pub judges_refusal : (r : Refusal) → JudgesCall call (refused (number_of r)) xs → Judges call xs (Err r) IsSo
+    pub judges_refusal : (r : Refusal) → JudgesCall call (refused (number_of r)) xs → JudgesAndFinds call xs (Err r) IsSo
     judges_refusal r f = record { number = f; found = λ x q. let z : ◌≡◌ {A = ℕ} 0 1 = cc in absurd (omega arith) }
 
-    pub refused_call : {r : Refusal} → Judges call xs (Err r) IsSo → Answered call (Refused (number_of r)) xs xs
+    pub refused_call : {r : Refusal} → JudgesAndFinds call xs (Err r) IsSo → Answered call (Refused (number_of r)) xs xs
     refused_call {r} J = refusing (number_of r) J.number
 
 -- what `o.ok_or(r)` says of o

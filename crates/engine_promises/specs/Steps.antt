@@ -29,7 +29,7 @@ verdict_of (Ok found) = accepted
 verdict_of (Err r) = refused (number_of r)
 
 -- r is the judging of a call: its verdict, and what is found where it accepts is so
-pub record Judges {A : Type 0} (call : Call) (xs : List ℕ) (r : Result A Refusal) (IsSo : A → Type 0) : Type 0 where
+pub record JudgesAndFinds {A : Type 0} (call : Call) (xs : List ℕ) (r : Result A Refusal) (IsSo : A → Type 0) : Type 0 where
   pub number : JudgesCall call (verdict_of r) xs
   pub found : (x : A) → r ≡ Ok x → IsSo x
 

@@ -11,12 +11,12 @@ use Rattle.refusal.specs.Cases.{gives}
 use Rattle.refusal.proofs.CheckingOrder.{first_mapped, first_more}
 use Rattle.plan_format.specs.Plan.{count}
 use Rattle.plan_format.specs.Reading.{plan_cases, judging}
-use Rattle.plan_naming.specs.Naming.{Place, name_at, naming}
+use Rattle.plan_naming.specs.Naming.{NamePlace, name_at, naming}
 use Rattle.plan_format.proofs.Pairs.{PairRight}
 use Rattle.plan_format.proofs.Accepted.{accepted}
 
 -- the place of station k's name in a plan that was judged so
-abbrev pub place_in : List ℕ → ℕ → Result ℕ Refusal → Result Place Refusal
+abbrev pub place_in : List ℕ → ℕ → Result ℕ Refusal → Result NamePlace Refusal
 place_in p k (Ok n) = cond (station_out n k) (Err NoStation) (Ok (name_at p k))
 place_in p k (Err r) = Err r
 
