@@ -23,14 +23,21 @@ pub fn begins(line: &[u8], word: &[u8]) -> bool
     line.starts_with(word)
 }
 
-// How many digits stand at a place.
+// How many digits stand at the front of some bytes.
+fn digits_in(rest: &[u8]) -> usize
+    ensures { result ≡ prefix_len is_digit rest.now }
+{
+    rest.iter().take_while(|b| b.is_ascii_digit()).count()
+}
+
+// How many digits stand at a place. The rest of the line is taken at once: `skip` would step over each byte before the place.
 fn digit_count(line: &[u8], at: usize) -> usize
     ensures { result ≡ prefix_len is_digit (drop at line.now) }
 {
-    line.iter()
-        .skip(at)
-        .take_while(|b| b.is_ascii_digit())
-        .count()
+    match line.get(at..) {
+        Some(rest) => digits_in(rest),
+        None => 0,
+    }
 }
 
 // What digits say.
