@@ -44,7 +44,7 @@ one_passes (suc n) s f l h = go (which s n) (λ i. one_passes n s f i h)
 -- ---- the first k entries are added
 
 -- no cost yet
-zeros : (n s : ℕ) → ◌≡◌ {A = ℕ} (get_or (replicate n 0) s 0) 0
+pub zeros : (n s : ℕ) → ◌≡◌ {A = ℕ} (get_or (replicate n 0) s 0) 0
 zeros zero s = refl
 zeros (suc n) zero = refl
 zeros (suc n) (suc s) = zeros n s

@@ -8,12 +8,11 @@ use native.Mathlib.Omega.{arith}
 use borrow.Author.Tests.{ltb-false}
 use lib.Dec.{ltb}
 use lib.ListN.{length, drop}
-use Rattle.std.specs.Prelude.{Option, Some, None, Result, Ok, Err, ⊤}
-use Rattle.std.specs.Option.{ok_or}
+use Rattle.std.specs.Prelude.{Result, Ok, Err, ⊤}
 use Rattle.words.specs.Le.{store_at}
 use Rattle.words.proofs.Laws.{length_store, load_other, load_stored}
 use Rattle.refusal.specs.declared.Refusal.{Refusal}
-use Rattle.refusal.specs.declared.Refusal.TheVariants.{Space, Part, Charge}
+use Rattle.refusal.specs.declared.Refusal.TheVariants.{Space, Part}
 use Rattle.refusal.specs.Tests.{account_space_out, judged}
 use Rattle.refusal.specs.Cases.{Case, first_of, checks_of}
 use Rattle.refusal.proofs.CheckingOrder.{first_judged}
@@ -22,7 +21,7 @@ use Rattle.account_parts.specs.Part.{part_out}
 use Rattle.account.specs.Answers.{account_says, charge_says}
 use Rattle.account.specs.Account.{reading_cost, frame_cost, charge_at, account_cases, part_cases, charge_cases}
 use Rattle.account.specs.Promises.{OpensAccount, ReadsPart, ReadsCharge, charge_of}
-use Rattle.account.specs.Steps.{CostsAdded, PartJudged, answer_of, CostsStored, ChargesCleared}
+use Rattle.account.specs.Steps.{Costs, CostsAdded, PartJudged, CostsStored, ChargesCleared}
 use Rattle.account.proofs.Storing.{drop_store}
 
 -- ---- an accepted call
@@ -96,61 +95,48 @@ module _ (n a b : ℕ) (xs : List ℕ) where
 
 -- ---- a part is judged
 
-pub none_some : {ws : List ℕ} → ◌≡◌ {A = Option (List ℕ)} None (Some ws) → ⊥
-none_some q = let z : ◌≡◌ {A = ℕ} 0 1 = cc in omega arith
+module _ (n : ℕ) (part xs ws : List ℕ) (w : Costs ws) where
+  judged_refused : (e : Refusal)
+      → ◌≡◌ {A = Result ⊤ Refusal} (Err e) (first_of Err (part_cases n (length xs) (reading_cost xs) (frame_cost xs) (charge_at xs) part) (Ok tt))
+      → PartJudged n part xs (Err e) ws
+  judged_refused e h = record { words = w; answer = h; fits = λ q. absurd (done_refused (sym q)); costs = λ q. absurd (done_refused (sym q)) }
 
-pub some_same : {vs ws : List ℕ} → ◌≡◌ {A = Option (List ℕ)} (Some vs) (Some ws) → vs ≡ ws
-some_same q = cc
+  pub judged_space : account_space_out n (length xs) ≡ true → PartJudged n part xs (Err Space) ws
+  judged_space h = judged_refused Space (rw h)
 
-err_ok : {e : Refusal} {ws : List ℕ} → ◌≡◌ {A = Result (List ℕ) Refusal} (Err e) (Ok ws) → ⊥
-err_ok q = let z : ◌≡◌ {A = ℕ} 0 1 = cc in omega arith
+  pub judged_part : account_space_out n (length xs) ≡ false → part_out n part ≡ true → PartJudged n part xs (Err Part) ws
+  judged_part h p = judged_refused Part (rw (h, p))
 
-ok_same : {vs ws : List ℕ} → ◌≡◌ {A = Result (List ℕ) Refusal} (Ok vs) (Ok ws) → vs ≡ ws
-ok_same q = cc
-
-module _ (n : ℕ) (part xs : List ℕ) where
-  pub judged_space : account_space_out n (length xs) ≡ true → PartJudged n part xs (Err Space)
-  judged_space h = record { answer = rw h; fits = λ ws q. absurd (err_ok q) }
-
-  pub judged_part : account_space_out n (length xs) ≡ false → part_out n part ≡ true → PartJudged n part xs (Err Part)
-  judged_part h p = record { answer = rw (h, p); fits = λ ws q. absurd (err_ok q) }
-
-  pub judged_costs : account_space_out n (length xs) ≡ false → part_out n part ≡ false → (o : Option (List ℕ))
-      → CostsAdded (reading_cost xs) (frame_cost xs) n part xs o → PartJudged n part xs (ok_or o Charge)
-  judged_costs h p (Some vs) c = record { answer = rw (h, p, ← c.passes); fits = λ ws q. c.fits ws (ap Some (ok_same q)) }
-  judged_costs h p None c = record { answer = rw (h, p, ← c.passes); fits = λ ws q. absurd (err_ok q) }
+-- where neither 7 nor 19 holds, what the costs answer, 20 or none
+pub judged_costs : (n : ℕ) (part xs : List ℕ) → account_space_out n (length xs) ≡ false → part_out n part ≡ false → (r : Result ⊤ Refusal) (ws : List ℕ)
+    → CostsAdded (reading_cost xs) (frame_cost xs) n part xs r ws → PartJudged n part xs r ws
+judged_costs n part xs h p r ws c = record { words = c.words; answer = rw (h, p) c.answer; fits = c.fits; costs = c.costs }
 
 -- ---- read
 
-module _ (n : ℕ) (part xs : List ℕ) (r : Result (List ℕ) Refusal) (j : PartJudged n part xs r) where
+module _ (n : ℕ) (part xs ws : List ℕ) (r : Result ⊤ Refusal) (j : PartJudged n part xs r ws) where
   pub read_refused : (e : Refusal) → r ≡ Err e → ReadsPart n part xs (Err e) xs
-  read_refused e q =
-      let a = ap answer_of (sym q) ∙ j.answer in
-      record {
-        answer = a;
-        number = said_number (part_cases n (length xs) (reading_cost xs) (frame_cost xs) (charge_at xs) part) (Err e) a;
-        refusal = λ _ _. refl;
-        takes = λ d. absurd (done_refused (sym d));
-      }
+  read_refused e q = record {
+    answer = sym q ∙ j.answer;
+    number = said_number (part_cases n (length xs) (reading_cost xs) (frame_cost xs) (charge_at xs) part) (Err e) (sym q ∙ j.answer);
+    refusal = λ _ _. refl;
+    takes = λ d. absurd (done_refused (sym d));
+  }
 
-  module _ (ws : List ℕ) (q : r ≡ Ok ws) where
-    taken : ◌≡◌ {A = Result ⊤ Refusal} (Ok tt) (first_of Err (part_cases n (length xs) (reading_cost xs) (frame_cost xs) (charge_at xs) part) (Ok tt))
-    taken = ap answer_of (sym q) ∙ j.answer
+  -- a part that is taken has passed 7
+  pub room_taken : r ≡ Ok tt → Roomy n (length xs)
+  room_taken d = room n (length xs) (passed (account_space_out n (length xs)) Space _ (sym d ∙ j.answer)).0
 
-    -- a part that is taken has passed 7
-    pub room_taken : Roomy n (length xs)
-    room_taken = room n (length xs) (passed (account_space_out n (length xs)) Space _ taken).0
-
-    pub read_done : (ys : List ℕ) → CostsStored n part ws xs ys → ReadsPart n part xs (Ok tt) ys
-    read_done ys st = record {
-      answer = taken;
-      number = said_number (part_cases n (length xs) (reading_cost xs) (frame_cost xs) (charge_at xs) part) (Ok tt) taken;
-      refusal = λ e q. absurd (done_refused q);
-      takes = λ _. record {
-        size = st.only.size;
-        reading = st.only.reading;
-        frame = st.only.frame;
-        charges = λ s l. let e = (j.fits ws q).costs s l in st.charges _ _ s l e ∙ ap (λ v. charge_at xs s + v) e;
-        rest = st.only.rest;
-      };
-    }
+  pub read_done : r ≡ Ok tt → (ys : List ℕ) → CostsStored n part ws xs ys → ReadsPart n part xs (Ok tt) ys
+  read_done d ys st = record {
+    answer = sym d ∙ j.answer;
+    number = said_number (part_cases n (length xs) (reading_cost xs) (frame_cost xs) (charge_at xs) part) (Ok tt) (sym d ∙ j.answer);
+    refusal = λ e q. absurd (done_refused q);
+    takes = λ _. record {
+      size = st.only.size;
+      reading = st.only.reading;
+      frame = st.only.frame;
+      charges = λ s l. let e = j.costs d s l in st.charges _ _ s l e ∙ ap (λ v. charge_at xs s + v) e;
+      rest = st.only.rest;
+    };
+  }

@@ -1,15 +1,18 @@
--- Charges stored: what a store leaves of the other bytes, the charges of the stations set to 0, and a part's costs added to them, entry by entry.
-use mathlib.Core.Path.{◌≡◌, refl, sym, ◌∙◌}
+-- Charges stored: what a store leaves of the other bytes, the part with the charges set to 0, and a part's costs added to them, entry by entry.
+use mathlib.Core.Path.{◌≡◌, refl, sym, ap, ap₂, ◌∙◌}
 use mathlib.Core.Bool.{Bool, true, false, cond}
 use mathlib.Core.Logic.{inl, inr}
 use mathlib.Core.List.{List}
-use Prim.Native.Nat.{ℕ, zero, suc, ◌+◌, ◌*◌, ◌/◌, ◌%◌, ◌≤◌, ◌<◌}
+use Prim.Native.Nat.{ℕ, zero, suc, ◌+◌, ◌-◌, ◌*◌, ◌/◌, ◌%◌, ◌≤◌, ◌<◌}
 use native.Mathlib.Decide.{dec_lt}
 use native.Mathlib.Omega.{arith}
 use lib.Dec.{leb}
-use lib.ListN.{length, get_or, set, drop}
+use lib.ListN.{length, get_or, set, take, drop, replicate}
 use lib.Seq.{get_or-set_same, get_or-set_other, drop-set-lt}
-use Rattle.words.specs.Le.{put_le, store_at}
+use borrow.Rule.Slice.PartMut.{put_mid, same_len_mid, mid_len, drop_put as drop_mid}
+use Rattle.std.proofs.lemmas.List.{length-take-le, get_or_append_left, get_or-append_right, get_or-take}
+use Rattle.words.specs.Le.{le_at, load_at, put_le, store_at}
+use Rattle.words.proofs.Total.{load_in}
 use Rattle.words.proofs.Laws.{length_store, load_other, load_stored}
 use Rattle.line.proofs.Order.{Which, this, other, which}
 use Rattle.account_parts.specs.Part.{entry_at, entries_of}
@@ -17,7 +20,7 @@ use Rattle.account_parts.specs.Cost.{cost_at}
 use Rattle.account_parts.proofs.FirstEntries.{some_target}
 use Rattle.account.specs.Account.{charge_at}
 use Rattle.account.specs.Steps.{Costs, CostsFit, OnlyCharges, CostsStored, ChargesCleared}
-use Rattle.account.proofs.Adding.{costs_set}
+use Rattle.account.proofs.Adding.{zeros, costs_set}
 
 -- ---- one charge stored
 
@@ -55,17 +58,52 @@ charge_there t v s ys d = go (dec_lt s t)
     go (yes l) = load_other 8 8 (8 + 8 * t) v ys (8 + 8 * s) (inr (omega arith))
     go (no l) = load_other 8 8 (8 + 8 * t) v ys (8 + 8 * s) (inl (omega (arith, d)))
 
--- ---- the first charges set to 0
+-- ---- the charges set to 0
 
-pub cleared_none : (n : ℕ) (xs : List ℕ) → ChargesCleared n 0 xs xs
-cleared_none n xs = record { only = same_only n xs; charges = λ s l. absurd (omega arith) }
+-- numbers whose bytes are the same, or 0
+le_equal : (w i : ℕ) (xs ys : List ℕ) → ((j : ℕ) → j < i + w → get_or ys j 0 ≡ get_or xs j 0) → le_at w i ys ≡ le_at w i xs
+unfolding le_at
+le_equal zero i xs ys h = refl
+le_equal (suc w) i xs ys h = ap₂ (λ (a b : ℕ). a * 256 + b) (le_equal w (suc i) xs ys (λ j l. h j (omega arith))) (h i (omega arith))
 
-pub cleared_next : (n k : ℕ) (xs ys : List ℕ) → k < n → 8 + 8 * n ≤ length xs → ChargesCleared n k xs ys → ChargesCleared n (k + 1) xs (store_at 8 (8 + 8 * k) 0 ys)
-cleared_next n k xs ys i l h = record { only = only_charge n k 0 xs ys i h.only; charges = λ s j. go s j (which s k) }
-  where
-    go : (s : ℕ) → s < k + 1 → Which s k → charge_at (store_at 8 (8 + 8 * k) 0 ys) s ≡ 0
-    go s j (this d _) = rw d (charge_here k 0 ys (omega (arith, h.only.size)) (omega arith))
-    go s j (other d _) = charge_there k 0 s ys d ∙ h.charges s (omega (arith, d))
+load_equal : (w i : ℕ) (xs ys : List ℕ) → length ys ≡ length xs → ((j : ℕ) → j < i + w → get_or ys j 0 ≡ get_or xs j 0) → load_at w i ys ≡ load_at w i xs
+unfolding load_at
+load_equal w i xs ys e h = rw (e, le_equal w i xs ys h)
+
+le_zero : (w i : ℕ) (xs : List ℕ) → ((j : ℕ) → i ≤ j → j < i + w → get_or xs j 0 ≡ 0) → le_at w i xs ≡ 0
+unfolding le_at
+le_zero zero i xs h = refl
+le_zero (suc w) i xs h = ap₂ (λ (a b : ℕ). a * 256 + b) (le_zero w (suc i) xs (λ j k l. h j (omega arith) (omega arith))) (h i (omega arith) (omega arith))
+
+-- zs, which are all 0, in the place of the charges
+module _ (n m : ℕ) (xs zs : List ℕ) (l : 8 + 8 * n ≤ length xs) (size : length zs ≡ 8 + 8 * n - 8) (e : zs ≡ replicate {A = ℕ} m 0) where
+  abbrev ys : List ℕ
+  ys = put_mid 8 (8 + 8 * n - 8) xs zs
+
+  long : length ys ≡ length xs
+  long = same_len_mid 8 (8 + 8 * n - 8) xs zs (size ∙ sym (mid_len 8 (8 + 8 * n) xs l))
+
+  front : length (take 8 xs) ≡ 8
+  front = length-take-le 8 xs (omega arith)
+
+  before : (j : ℕ) → j < 8 → get_or ys j 0 ≡ get_or xs j 0
+  before j h = get_or_append_left (take 8 xs) _ 0 j (omega (arith, front)) ∙ get_or-take 8 xs j 0 h
+
+  within : (j : ℕ) → 8 ≤ j → j < 8 + 8 * n → get_or ys j 0 ≡ 0
+  within j h k =
+      get_or-append_right (take 8 xs) _ 8 j 0 front h ∙ get_or_append_left zs _ 0 (j - 8) (omega (arith, size)) ∙ ap (λ (vs : List ℕ). get_or vs (j - 8) 0) e ∙ zeros m (j - 8)
+
+  pub charges_cleared : ChargesCleared n n xs ys
+  charges_cleared = record {
+    only = record {
+      size = long;
+      reading = load_equal 4 0 xs ys long (λ j h. before j (omega arith));
+      frame = load_equal 4 4 xs ys long (λ j h. before j (omega arith));
+      rest = drop_mid 8 (8 + 8 * n) xs zs (omega arith) l size;
+    };
+    charges = λ s h.
+        load_in 8 (8 + 8 * s) ys (omega (arith, long)) ∙ le_zero 8 (8 + 8 * s) ys (λ j a b. within j (omega arith) (omega arith));
+  }
 
 -- ---- the costs of the first k entries' targets stored
 

@@ -1,8 +1,9 @@
 -- What the steps of reading a part promise. vs and ws are the costs that a call works on, 256 numbers of 64 bits.
-use Rattle.std.specs.Prelude.{ℕ, ◌+◌, ◌≤◌, ◌<◌, ◌≡◌, List, length, get_or, drop, Result, Ok, Err, ⊤, Option, Some, is_none}
+use Rattle.std.specs.Prelude.{ℕ, ◌+◌, ◌≤◌, ◌<◌, ◌≡◌, List, [], ◌∷◌, length, get_or, drop, Result, Ok, Err, ⊤}
 use Rattle.refusal.specs.declared.Refusal.{Refusal}
+use Rattle.refusal.specs.declared.Refusal.TheVariants.{Charge}
 use Rattle.refusal.specs.Tests.{account_bytes}
-use Rattle.refusal.specs.Cases.{first_of}
+use Rattle.refusal.specs.Cases.{gives, first_of}
 use Rattle.account_parts.specs.Part.{entries_of}
 use Rattle.account_parts.specs.Cost.{cost_at}
 use Rattle.account.specs.Account.{reading_cost, frame_cost, charge_at, charged, any_passes, part_cases}
@@ -15,26 +16,19 @@ pub record Costs (ws : List ℕ) : Type 0 where
 pub record CostsFit (n : ℕ) (ws xs : List ℕ) : Type 0 where
   pub sums : (s : ℕ) → s < n → charge_at xs s + get_or ws s 0 ≤ 18446744073709551615
 
--- what the entries of a part cost at n stations
-pub record CostsOf (a b n : ℕ) (part xs ws : List ℕ) : Type 0 where
+-- a part's costs at n stations, and 20 where a charge would pass 64 bits
+pub record CostsAdded (a b n : ℕ) (part xs : List ℕ) (r : Result ⊤ Refusal) (ws : List ℕ) : Type 0 where
   pub words : Costs ws
-  pub fits : CostsFit n ws xs
-  pub costs : (s : ℕ) → s < n → get_or ws s 0 ≡ cost_at a b s (entries_of part)
-
--- a part's costs at n stations; none where a charge would pass 64 bits
-pub record CostsAdded (a b n : ℕ) (part xs : List ℕ) (r : Option (List ℕ)) : Type 0 where
-  pub passes : is_none r ≡ any_passes n (charged a b (charge_at xs) (entries_of part))
-  pub fits : (ws : List ℕ) → r ≡ Some ws → CostsOf a b n part xs ws
-
--- what a judging answers, without the costs
-abbrev pub answer_of : Result (List ℕ) Refusal → Result ⊤ Refusal
-answer_of (Ok ws) = Ok tt
-answer_of (Err e) = Err e
+  pub answer : r ≡ first_of Err (gives Charge (any_passes n (charged a b (charge_at xs) (entries_of part))) ∷ []) (Ok tt)
+  pub fits : r ≡ Ok tt → CostsFit n ws xs
+  pub costs : r ≡ Ok tt → (s : ℕ) → s < n → get_or ws s 0 ≡ cost_at a b s (entries_of part)
 
 -- the refusal of a part, and where there is none its costs
-pub record PartJudged (n : ℕ) (part xs : List ℕ) (r : Result (List ℕ) Refusal) : Type 0 where
-  pub answer : answer_of r ≡ first_of Err (part_cases n (length xs) (reading_cost xs) (frame_cost xs) (charge_at xs) part) (Ok tt)
-  pub fits : (ws : List ℕ) → r ≡ Ok ws → CostsOf (reading_cost xs) (frame_cost xs) n part xs ws
+pub record PartJudged (n : ℕ) (part xs : List ℕ) (r : Result ⊤ Refusal) (ws : List ℕ) : Type 0 where
+  pub words : Costs ws
+  pub answer : r ≡ first_of Err (part_cases n (length xs) (reading_cost xs) (frame_cost xs) (charge_at xs) part) (Ok tt)
+  pub fits : r ≡ Ok tt → CostsFit n ws xs
+  pub costs : r ≡ Ok tt → (s : ℕ) → s < n → get_or ws s 0 ≡ cost_at (reading_cost xs) (frame_cost xs) s (entries_of part)
 
 -- what a change of charges leaves of the bytes
 pub record OnlyCharges (n : ℕ) (xs ys : List ℕ) : Type 0 where

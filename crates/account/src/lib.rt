@@ -4,7 +4,7 @@
 
 #![tactic(auto)]
 
-ghost use Rattle.std.specs.Prelude.{◌≡◌, ◌≤◌, length};
+ghost use Rattle.std.specs.Prelude.{◌≡◌, ◌≤◌, length, replicate};
 ghost use Rattle.refusal.specs.Tests.{account_bytes, account_space_out};
 ghost use Rattle.account.specs.Promises.{OpensAccount, ReadsPart, ReadsCharge};
 ghost use Rattle.account.specs.Steps.{Costs, CostsFit, CostsAdded, PartJudged, CostsStored, ChargesCleared};
@@ -18,29 +18,36 @@ fn space_out(n: u64, bytes: usize) -> bool
     n < 1 || 256 < n || bytes < 8 + 8 * n as usize
 }
 
-// What a part's entries cost at each of n stations; none where a charge would pass 64 bits with it.
-fn add_costs(b: &[u8], part: &[u8], reading: u32, frame: u32, n: usize) -> Option<[u64; 256]>
-    requires { n ≤ 256 }
-    ensures { CostsAdded reading frame n part.now b.now result }
+// Adds what a part's entries cost at each of n stations. Gives 20 where a charge would pass 64 bits.
+fn add_costs(
+    b: &[u8],
+    part: &[u8],
+    reading: u32,
+    frame: u32,
+    n: usize,
+    costs: &mut [u64; 256],
+) -> Result<(), Refusal>
+    requires { (n ≤ 256) × (costs.old ≡ replicate 256 0) }
+    ensures { CostsAdded reading frame n part.now b.now result costs.new }
 {
-    let mut costs = [0; 256];
     for k in 0..part.len() / 24 {
         let s = words::load::<u16>(part, 24 * k + 16) as usize;
         let c = account_parts::cost(words::load::<u32>(part, 24 * k + 20), reading, frame);
         if s < n {
             let cost = costs[s];
             if 18446744073709551615 - c < words::load::<u64>(b, 8 + 8 * s) + cost {
-                return None;
+                return Err(Refusal::Charge);
             }
             costs[s] = cost + c;
         }
     }
-    Some(costs)
+    Ok(())
 }
 
 // Which of 7, 19 and 20 refuses a part; where none does, what it costs at each station.
-fn judge_part(b: &[u8], n: u64, part: &[u8]) -> Result<[u64; 256], Refusal>
-    ensures { PartJudged n part.now b.now result }
+fn judge_part(b: &[u8], n: u64, part: &[u8], costs: &mut [u64; 256]) -> Result<(), Refusal>
+    requires { costs.old ≡ replicate 256 0 }
+    ensures { PartJudged n part.now b.now result costs.new }
 {
     if space_out(n, b.len()) {
         return Err(Refusal::Space);
@@ -50,7 +57,7 @@ fn judge_part(b: &[u8], n: u64, part: &[u8]) -> Result<[u64; 256], Refusal>
     }
     let reading = words::load::<u32>(b, 0);
     let frame = words::load::<u32>(b, 4);
-    add_costs(b, part, reading, frame, n as usize).ok_or(Refusal::Charge)
+    add_costs(b, part, reading, frame, n as usize, costs)
 }
 
 // Charges the stations that a part's entries name with their costs, each once.
@@ -73,9 +80,7 @@ fn clear_charges(b: &mut [u8], n: usize)
     requires { (account_bytes n ≤ length b.old) × (n ≤ 256) }
     ensures { ChargesCleared n n b.old b.new }
 {
-    for s in 0..n {
-        words::store::<u64>(b, 8 + 8 * s, 0);
-    }
+    b[8..8 + 8 * n].fill(0);
 }
 
 // An account of n stations with nothing charged: what a reading costs, and a frame.
@@ -95,7 +100,8 @@ pub fn open(n: u64, reading: u32, frame: u32, b: &mut [u8]) -> Result<(), Refusa
 pub fn read(b: &mut [u8], n: u64, part: &[u8]) -> Result<(), Refusal>
     ensures { ReadsPart n part.now b.old result b.new }
 {
-    let mut costs = judge_part(b, n, part)?;
+    let mut costs = [0u64; 256];
+    judge_part(b, n, part, &mut costs)?;
     store_costs(b, part, n as usize, &mut costs);
     Ok(())
 }

@@ -1,16 +1,16 @@
 -- The costs of the first k entries are added.
-use mathlib.Core.Path.{◌≡◌, refl, sym}
+use mathlib.Core.Path.{◌≡◌, sym}
 use Prim.Native.Nat.{◌/◌}
 use native.Mathlib.Omega.{arith}
 use lib.ListN.{length}
 use Rattle.account_parts.specs.Part.{entry_at, entries_of}
-use Rattle.account.proofs.Answers.{none_some, some_same}
+use Rattle.account.proofs.Answers.{done_refused}
 use Rattle.account.proofs.Adding.{costs_none, costs_beside, costs_next, costs_pass, costs_fit}
 use Rattle.account.proofs.add_costs.Goals as goal
 use Rattle.account.proofs.add_costs.Goals.{then-s-n+else-c-load, else-s-n}
 
 pub loop-k-init : goal.loop-k-init
-loop-k-init c = costs_none _ _ _ _ _ _ refl (λ j. omega (arith, c.shared_slice_known-1.given j))
+loop-k-init c = costs_none _ _ _ _ _ _ c.requires.1 (λ j. omega (arith, c.shared_slice_known-1.given j))
 
 -- a charge and the costs so far do not pass
 pub overflow_add-load : goal.overflow_add-load
@@ -20,10 +20,13 @@ overflow_add-load c =
 pub returns-then-c-load : goal.returns-then-c-load
 unfolding entries_of entry_at
 returns-then-c-load c =
+    let h = c.loop-k.invariant in
     record {
-      passes = sym (costs_pass _ _ _ _ _ _ _ c.loop-k.invariant _ _ _ c.load-s.ensures c.load.ensures c.cost-c.ensures _ (omega arith) c.if-s-n.true
+      words = h.words;
+      answer = rw (costs_pass _ _ _ _ _ _ _ h _ _ _ c.load-s.ensures c.load.ensures c.cost-c.ensures (length c.args.part.now / 24) (omega arith) c.if-s-n.true
           (omega (arith, c.load-then-s-n.ensures, c.if-c-load.true)));
-      fits = λ ws q. absurd (none_some q);
+      fits = λ q. absurd (done_refused (sym q));
+      costs = λ q. absurd (done_refused (sym q));
     }
 
 pub overflow_add-costs : goal.overflow_add-costs
@@ -39,7 +42,7 @@ loop-k-preserved c =
     elim c.if-s-n.branch [
       | then-s-n+else-c-load w ↦
           rw w.costs-is
-          (costs_next _ _ _ _ _ _ _ h _ _ _ et ed ec w.if-s-n.true c.requires (omega (arith, w.load-then-s-n.ensures, w.if-c-load.false)))
+          (costs_next _ _ _ _ _ _ _ h _ _ _ et ed ec w.if-s-n.true c.requires.0 (omega (arith, w.load-then-s-n.ensures, w.if-c-load.false)))
       | else-s-n w ↦ rw w.costs-is (costs_beside _ _ _ _ _ _ _ h _ _ _ et ed ec w.if-s-n.false)
     ]
 
@@ -48,4 +51,4 @@ unfolding entries_of
 returns c =
     let h = c.loop-k.invariant in
     let e : length c.args.part.now / 24 ≡ c.loop-k.k = omega arith in
-    record { passes = rw e (sym (costs_fit _ _ _ _ _ _ _ h)); fits = λ ws q. rw (← some_same q) (record { words = h.words; fits = h.fits; costs = rw e h.costs }) }
+    record { words = h.words; answer = rw (e, costs_fit _ _ _ _ _ _ _ h); fits = λ _. h.fits; costs = λ _. rw e h.costs }

@@ -1,17 +1,12 @@
--- The charges of the first s stations are 0.
-use mathlib.Core.Path.{◌≡◌}
-use native.Mathlib.Omega.{arith}
-use Rattle.account.proofs.Storing.{cleared_none, cleared_next}
+-- The part that holds the charges is filled with 0.
+use mathlib.Core.Path.{◌∙◌}
+use Prim.Native.Nat.{◌+◌, ◌*◌}
+use borrow.Rule.Slice.PartMut.{mid_len}
+use Rattle.account.proofs.Storing.{charges_cleared}
 use Rattle.account.proofs.clear_charges.Goals as goal
 
-pub loop-s-init : goal.loop-s-init
-loop-s-init c = cleared_none _ _
-
-pub loop-s-preserved : goal.loop-s-preserved
-loop-s-preserved c = rw c.store.ensures (cleared_next _ _ _ _ (omega arith) (omega arith) c.loop-s.invariant)
-
-pub shape_of-b : goal.shape_of-b
-shape_of-b c = c.loop-s.invariant.only.size
-
 pub returns : goal.returns
-returns c = let e : c.loop-s.s ≡ c.args.n = omega arith in rw e at c.loop-s.invariant
+returns c =
+    let n = c.args.n in
+    let l = c.requires.0 in
+    charges_cleared n _ c.args.b.now c.fill.new.self l (c.fill.ensures.len ∙ mid_len 8 (8 + 8 * n) c.args.b.now l) (c.fill.ensures.after (λ y e. e))
