@@ -2,6 +2,7 @@
 
 #![tactic(auto)]
 
+use quote_lines::Line;
 use std::fmt::Display;
 use std::io;
 use std::io::Write;
@@ -14,8 +15,10 @@ pub fn put(
     anchor: &str,
     text: impl Display + Drop,
 ) -> io::Result<()> {
+    let mut line = Line::new();
     writeln!(
-        out,
+        line,
         "<text x=\"{x}\" y=\"{y}\" text-anchor=\"{anchor}\">{text}</text>"
-    )
+    )?;
+    line.put(out)
 }

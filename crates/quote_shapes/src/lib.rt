@@ -2,6 +2,7 @@
 
 #![tactic(auto)]
 
+use quote_lines::Line;
 use std::io;
 use std::io::Write;
 
@@ -11,8 +12,10 @@ pub fn put_start(out: &mut impl Write, wide: u64) -> io::Result<()> {
         out,
         "<svg xmlns=\"http://www.w3.org/2000/svg\" font-family=\"sans-serif\" font-size=\"12\" fill=\"#333\" shape-rendering=\"crispEdges\""
     )?;
-    write!(out, "    width=\"{wide}\" height=\"400\"")?;
-    writeln!(out, " viewBox=\"0 0 {wide} 400\">")
+    let mut size = Line::new();
+    write!(size, "    width=\"{wide}\" height=\"400\"")?;
+    writeln!(size, " viewBox=\"0 0 {wide} 400\">")?;
+    size.put(out)
 }
 
 // A rectangle, by its upper left corner.
@@ -24,10 +27,12 @@ pub fn put_rect(
     tall: u64,
     fill: &str,
 ) -> io::Result<()> {
+    let mut line = Line::new();
     writeln!(
-        out,
+        line,
         "<rect x=\"{x}\" y=\"{y}\" width=\"{wide}\" height=\"{tall}\" fill=\"{fill}\"/>"
-    )
+    )?;
+    line.put(out)
 }
 
 // A rule from left to right; the stroke is its colour, and may bring other attributes along.
@@ -38,5 +43,10 @@ pub fn put_rule(
     y: u64,
     stroke: &str,
 ) -> io::Result<()> {
-    writeln!(out, "<path d=\"M{left} {y}H{right}\" stroke=\"{stroke}\"/>")
+    let mut line = Line::new();
+    writeln!(
+        line,
+        "<path d=\"M{left} {y}H{right}\" stroke=\"{stroke}\"/>"
+    )?;
+    line.put(out)
 }
