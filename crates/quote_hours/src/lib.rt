@@ -2,6 +2,9 @@
 
 #![tactic(auto)]
 
+ghost use Rattle.std.specs.Prelude.{Some};
+ghost use Rattle.quote_hours.specs.Bars.{bar};
+
 use quote_numbers::{HEARD, LOST};
 use std::{fmt, io};
 
@@ -28,6 +31,8 @@ fn most_heard(hours: &[u32], days: u16) -> u64 {
 struct Bar(u64);
 
 impl fmt::Display for Bar {
+    ghost output = { λ b. Some (bar b.0) };
+
     fn fmt<W: fmt::Write>(&self, f: &mut fmt::Formatter<W>) -> fmt::Result {
         if self.0 == 0 {
             return Ok(());
